@@ -1,0 +1,57 @@
+-- Which lists of records are a table with a key, and the first fault of one that isn't.
+use Rattle.std.specs.Prelude.{◌≡◌, ◌==◌, ◌+◌, Bool, ℕ, List, [], ◌∷◌, length, Option, Some, None, count_by, if◌then◌else◌, unwrap_or}
+use Rattle.std.specs.List.{position_or_len}
+use Rattle.std.specs.Str.{bytes_eq}
+use Rattle.row_model.specs.declared.RowFault.{RowFault}
+use Rattle.row_model.specs.declared.RowFault.TheVariants as fault
+use Rattle.row_model.specs.Table.{Table}
+
+-- the first of two faults
+abbrev pub or_else : Option RowFault → Option RowFault → Option RowFault
+or_else None later = later
+or_else (Some f) later = Some f
+
+-- whether a header field is the key's name
+abbrev pub is_name : List ℕ → List ℕ → Bool
+is_name key name = bytes_eq name key
+
+-- the first column of that name
+abbrev pub column_of : List ℕ → List (List ℕ) → ℕ
+column_of key header = position_or_len (is_name key) header
+
+-- exactly one header field is the key's name
+unfoldable pub header_fault : List ℕ → List (List ℕ) → Option RowFault
+header_fault key header =
+    if count_by (is_name key) header == 0 then Some fault.NoKey
+    else if count_by (is_name key) header == 1 then None
+    else Some fault.TwoKeys
+
+-- each row, the first of which is record `number`, has the header's length
+unfoldable pub rows_fault : ℕ → ℕ → List (List (List ℕ)) → Option RowFault
+rows_fault width number [] = None
+rows_fault width number (row ∷ rows) =
+    if length row == width then rows_fault width (number + 1) rows else Some (fault.Ragged number)
+
+-- the first fault of these records, if more may follow
+unfoldable pub fault_so_far : List ℕ → List (List (List ℕ)) → Option RowFault
+fault_so_far key [] = None
+fault_so_far key (header ∷ rows) = or_else (header_fault key header) (rows_fault (length header) 2 rows)
+
+-- the first fault of all the records: the header's, then the rows' in their order
+unfoldable pub form_fault : List (List (List ℕ)) → List ℕ → Option RowFault
+form_fault [] key = Some fault.NoHeader
+form_fault (header ∷ rows) key = fault_so_far key (header ∷ rows)
+
+-- the first record
+abbrev pub header_of : List (List (List ℕ)) → List (List ℕ)
+header_of [] = []
+header_of (header ∷ rows) = header
+
+-- the records after the first
+abbrev pub data_rows : List (List (List ℕ)) → List (List (List ℕ))
+data_rows [] = []
+data_rows (header ∷ rows) = rows
+
+-- the table of records without a fault
+unfoldable pub table_of : List (List (List ℕ)) → List ℕ → Table
+table_of records key = record { header = header_of records; rows = data_rows records; column = column_of key (header_of records) }

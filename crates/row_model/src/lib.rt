@@ -1,0 +1,69 @@
+//! The rows of a table in one buffer, and the keys by which two rows meet.
+#![tactic(auto)]
+
+ghost use Rattle.std.specs.Prelude.{◌≡◌};
+
+mod build;
+mod rows;
+
+pub use build::RowsBuilder;
+use proc_table::NoMemory;
+pub use rows::{Rows, same};
+
+/// Which side of a join a table is.
+#[derive(Debug, Clone, Copy, PartialEq, Eq)]
+pub enum Side {
+    Inner,
+    Outer,
+}
+
+/// Why some records are no table with a key. The first that applies is the one that counts:
+/// the header's faults, then the rows' in their order.
+#[derive(Debug, Clone, Copy, PartialEq, Eq)]
+pub enum RowFault {
+    /// There is no record, so there is no header.
+    NoHeader,
+    /// No header field is the key's name.
+    NoKey,
+    /// More than one header field is the key's name.
+    TwoKeys,
+    /// This record, counted from 1 with the header, has another length than the header.
+    Ragged { number: u32 },
+}
+
+/// Why a record could not be added.
+#[derive(Debug, Clone, Copy, PartialEq, Eq)]
+pub enum RecordFault {
+    Bad(RowFault),
+    NoMemory,
+}
+
+impl From<NoMemory> for RecordFault {
+    ghost use Rattle.row_model.specs.declared.RecordFault.TheVariants as fault;
+
+    ghost from_gives = { λ _ given. given ≡ fault.NoMemory };
+
+    fn from(_error: NoMemory) -> RecordFault {
+        RecordFault::NoMemory
+    }
+}
+
+/// An outer row and an inner row that meet, by their numbers from 0.
+#[derive(Debug, Clone, Copy, PartialEq, Eq)]
+pub struct Pair {
+    pub outer: u32,
+    pub inner: u32,
+}
+
+/// How a join is to run.
+#[derive(Debug, Clone, Copy, PartialEq, Eq)]
+pub struct Plan {
+    pub workers: u32,
+    /// Buckets of the hash table, a power of two.
+    pub buckets: u32,
+    /// The budget of rows per batch.
+    pub mem: u32,
+}
+
+#[cfg(test)]
+mod tests;
