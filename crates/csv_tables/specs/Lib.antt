@@ -1,0 +1,5 @@
+pub mod Records
+pub mod Causes
+pub mod Text
+pub mod Sides
+pub mod Memory
