@@ -30,7 +30,15 @@ abbrev pub other : Side → Side
 other side.Inner = side.Outer
 other side.Outer = side.Inner
 
--- the largest input
+-- nothing of a side has changed: neither what is left on it, nor what may be asked of it, nor its counts
+pub record KeepsSide {I : Type 0} (left : I → Side → Option (List ℕ)) (may_open : I → Side → List ℕ → Type 0) (may_read : I → Side → Type 0) (opens reads : I → Side → ℕ) (old new : I) (side : Side) : Type 0 where
+  pub left_kept : left new side ≡ left old side
+  pub may_open_kept : (name : List ℕ) → may_open old side name → may_open new side name
+  pub may_read_kept : may_read old side → may_read new side
+  pub opens_kept : opens new side ≡ opens old side
+  pub reads_kept : reads new side ≡ reads old side
+
+-- the bytes that one input may have
 abbrev pub input_limit : ℕ
 input_limit = 4096
 

@@ -8,7 +8,8 @@ ghost use Rattle.csv_tables.specs.Memory.{bytes_at, held_in, left_of};
 use crate::inputs::{Failed, Inputs};
 use row_model::Side;
 
-/// Files in memory.
+/// Files in memory, by name; of several with one name the first counts. A read gives at most
+/// `piece` bytes, and the calls in `failing` fail, counted from 1 over opens and reads together.
 #[derive(Drop)]
 pub struct MemInputs {
     pub files: Vec<(String, Vec<u8>)>,
@@ -25,10 +26,12 @@ pub struct MemInputs {
 }
 
 impl MemInputs {
-    /// These files, none of them open. The calls with these numbers fail.
+    /// These files, none of them open.
     pub fn new(files: Vec<(String, Vec<u8>)>, failing: Vec<u64>, piece: usize) -> MemInputs
         requires { 0 < piece }
-        ensures { result.files ≡ files }
+        ensures files { result.files ≡ files }
+        ensures failing { result.failing ≡ failing }
+        ensures piece { result.piece ≡ piece }
     {
         MemInputs {
             files,

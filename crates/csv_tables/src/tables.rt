@@ -5,7 +5,7 @@ ghost use Rattle.csv.specs.Reading.{NotLengths, error_kind};
 ghost use Rattle.csv.specs.Records.{fields_of};
 ghost use Rattle.row_model.specs.Form.{fault_so_far, form_fault, table_of};
 ghost use Rattle.row_model.specs.declared.RowFault.{RowFault};
-ghost use Rattle.csv_tables.specs.Causes.{ReadsAll, Loads, LoadCause, other};
+ghost use Rattle.csv_tables.specs.Causes.{KeepsSide, ReadsAll, Loads, LoadCause, other};
 ghost use Rattle.csv_tables.specs.Records.{records_of};
 
 use crate::LoadFault;
@@ -23,9 +23,7 @@ fn read_rest<I: Inputs>(alloc: Global, inputs: &mut I, side: Side) -> Result<Vec
     ensures reads { ReadsAll (λ v. v.items) (I.left inputs.old side) result }
     ensures held { I.held inputs.new ≡ I.held inputs.old }
     ensures cause { LoadCause (I.open_faults inputs.old side) (I.open_faults inputs.new side) (I.read_faults inputs.old side) (I.read_faults inputs.new side) result }
-    ensures other_may_open { (name : List ℕ) → I.may_open inputs.old (other side) name → I.may_open inputs.new (other side) name }
-    ensures other_opens { I.open_faults inputs.new (other side) ≡ I.open_faults inputs.old (other side) }
-    ensures other_reads { I.read_faults inputs.new (other side) ≡ I.read_faults inputs.old (other side) }
+    ensures others { KeepsSide I.left I.may_open I.may_read I.open_faults I.read_faults inputs.old inputs.new (other side) }
 {
     let mut buffer = [0u8; 8192];
     let mut bytes = Vec::new(alloc);
@@ -60,9 +58,7 @@ pub fn read_all<I: Inputs>(
     ensures reads { ReadsAll (λ v. v.items) (I.held inputs.old name.now) result }
     ensures held { I.held inputs.new ≡ I.held inputs.old }
     ensures cause { LoadCause (I.open_faults inputs.old side) (I.open_faults inputs.new side) (I.read_faults inputs.old side) (I.read_faults inputs.new side) result }
-    ensures other_may_open { (name : List ℕ) → I.may_open inputs.old (other side) name → I.may_open inputs.new (other side) name }
-    ensures other_opens { I.open_faults inputs.new (other side) ≡ I.open_faults inputs.old (other side) }
-    ensures other_reads { I.read_faults inputs.new (other side) ≡ I.read_faults inputs.old (other side) }
+    ensures others { KeepsSide I.left I.may_open I.may_read I.open_faults I.read_faults inputs.old inputs.new (other side) }
 {
     if inputs.open(side, name).is_err() {
         return Err(LoadFault::Open);
@@ -70,7 +66,7 @@ pub fn read_all<I: Inputs>(
     read_rest(alloc, inputs, side)
 }
 
-// Adds a record to a builder.
+// Adds the fields of a record to a builder, and ends it.
 fn add_record(builder: &mut RowsBuilder, row: &ByteRecord) -> Result<(), RecordFault>
     requires some { 0 < length (fields_of row.now) }
     requires fresh { builder.old.fields ≡ [] }
@@ -81,9 +77,7 @@ fn add_record(builder: &mut RowsBuilder, row: &ByteRecord) -> Result<(), RecordF
 {
     'fields: for i in 0..row.len() {
         if let Some(field) = row.get(i) {
-            if builder.push_field(field).is_err() {
-                return Err(RecordFault::NoMemory);
-            }
+            builder.push_field(field)?;
         }
     }
     builder.end_record()
@@ -105,23 +99,21 @@ fn load_text(alloc: Global, text: &[u8], key: &str) -> Result<Rows, RecordFault>
     ensures table { IfOk result (λ t. (form_fault (records_of text.now) key.now ≡ None) × (t ≡ table_of (records_of text.now) key.now)) }
     ensures bad { (f : RowFault) → result ≡ Err (RecordFault.Bad f) → form_fault (records_of text.now) key.now ≡ Some f }
 {
-    let Ok(mut builder) = RowsBuilder::new(alloc, key.as_bytes()) else {
-        return Err(RecordFault::NoMemory);
-    };
-    let reader = ReaderBuilder::new()
+    let mut builder = RowsBuilder::new(alloc, key.as_bytes())?;
+    let mut reader = ReaderBuilder::new()
         .has_headers(false)
         .flexible(true)
         .from_reader(alloc, text);
-    'records: for row in reader.into_byte_records() {
-        let row = match row {
-            Ok(row) => row,
+    let mut row = ByteRecord::new(alloc);
+    'records: for turn in 0..text.len() + 1 {
+        match reader.read_byte_record(&mut row) {
+            Ok(true) => add_record(&mut builder, &row)?,
+            Ok(false) => return builder.finish(),
             Err(fault) => return Err(unread(fault)),
-        };
-        if let Err(fault) = add_record(&mut builder, &row) {
-            return Err(fault);
         }
     }
-    builder.finish()
+    // Each record takes a byte at least.
+    unreachable!()
 }
 
 /// The table of the input of this name.
@@ -136,9 +128,7 @@ pub fn load<I: Inputs>(
     ensures loads { Loads (I.held inputs.old name.now) key.now result }
     ensures held { I.held inputs.new ≡ I.held inputs.old }
     ensures cause { LoadCause (I.open_faults inputs.old side) (I.open_faults inputs.new side) (I.read_faults inputs.old side) (I.read_faults inputs.new side) result }
-    ensures other_may_open { (name : List ℕ) → I.may_open inputs.old (other side) name → I.may_open inputs.new (other side) name }
-    ensures other_opens { I.open_faults inputs.new (other side) ≡ I.open_faults inputs.old (other side) }
-    ensures other_reads { I.read_faults inputs.new (other side) ≡ I.read_faults inputs.old (other side) }
+    ensures others { KeepsSide I.left I.may_open I.may_read I.open_faults I.read_faults inputs.old inputs.new (other side) }
 {
     let text = read_all(alloc, inputs, side, name)?;
     match load_text(alloc, text.as_slice(), key) {
