@@ -1,0 +1,138 @@
+-- What a join of two inputs answers, why, and what it has written.
+use Rattle.std.specs.Prelude.{◌≡◌, ◌<◌, ◌≤◌, ◌⊎◌, ℕ, nat_lt, if◌then◌else◌, List, length, Option, Some, None, IfSome, option_map, unwrap_or}
+use Rattle.std.specs.Io.KnownBytes.{Appends}
+use Rattle.row_model.specs.declared.RowFault.{RowFault}
+use Rattle.row_model.specs.declared.Side.{Side}
+use Rattle.row_model.specs.declared.Side.TheVariants as side
+use Rattle.row_model.specs.Form.{form_fault, table_of}
+use Rattle.csv_tables.specs.declared.LoadFault.{LoadFault}
+use Rattle.csv_tables.specs.declared.LoadFault.TheVariants as load
+use Rattle.csv_tables.specs.Causes.{Rose, AppendsPart, AppendsFront, input_limit}
+use Rattle.csv_tables.specs.Records.{records_of}
+use Rattle.csv_tables.specs.Text.{joined_text}
+use Rattle.pg_sync.specs.declared.status.Status.{Status}
+use Rattle.pg_sync.specs.declared.status.Status.TheVariants as status
+use Rattle.pg_sync.specs.Words.{Job}
+
+-- the text of the nested-loop join of two inputs by one thread
+abbrev pub text_of : Job → List ℕ → List ℕ → List ℕ
+text_of job inner outer = joined_text (table_of (records_of outer) job.outer_key) (table_of (records_of inner) job.inner_key)
+
+-- the same, where the bytes of both inputs are told
+abbrev pub told_text : Job → Option (List ℕ) → Option (List ℕ) → Option (List ℕ)
+told_text job (Some inner) (Some outer) = Some (text_of job inner outer)
+told_text job (Some inner) None = None
+told_text job None outer = None
+
+-- what the bytes of one side alone are refused for: their length, else their first fault of form
+abbrev pub side_refusal : Side → List ℕ → List ℕ → Option Status
+side_refusal s key bytes =
+    if nat_lt input_limit (length bytes) then Some (status.TooLong s)
+    else option_map (status.BadInput s) (form_fault (records_of bytes) key)
+
+-- the first of two refusals
+abbrev pub or_next : Option Status → Option Status → Option Status
+or_next (Some s) next = Some s
+or_next None next = next
+
+-- the answer that the bytes decide, where enough of them is told: the inner side's refusal, else the outer side's, else Done
+unfoldable pub answer_of : Job → Option (List ℕ) → Option (List ℕ) → Option Status
+answer_of job None outer = None
+answer_of job (Some inner) None = side_refusal side.Inner job.inner_key inner
+answer_of job (Some inner) (Some outer) =
+    or_next (side_refusal side.Inner job.inner_key inner) (or_next (side_refusal side.Outer job.outer_key outer) (Some status.Done))
+
+-- the bytes are a table with this key
+abbrev pub IsTable : List ℕ → List ℕ → Type 0
+IsTable key bytes = (length bytes ≤ input_limit) × (form_fault (records_of bytes) key ≡ None)
+
+-- the bytes have this fault of form
+abbrev pub HasFault : List ℕ → RowFault → List ℕ → Type 0
+HasFault key f bytes = (length bytes ≤ input_limit) × (form_fault (records_of bytes) key ≡ Some f)
+
+-- what the bytes, where they are told, show of each answer
+abbrev pub BytesShow : Job → Option (List ℕ) → Option (List ℕ) → Status → Type 0
+BytesShow job inner outer status.Done = IfSome inner (IsTable job.inner_key) × IfSome outer (IsTable job.outer_key)
+BytesShow job inner outer status.Words = ⊥
+BytesShow job inner outer (status.OpenFault side.Inner) = Unit {0}
+BytesShow job inner outer (status.ReadFault side.Inner) = Unit {0}
+BytesShow job inner outer (status.TooLong side.Inner) = IfSome inner (λ i. input_limit < length i)
+BytesShow job inner outer (status.BadInput side.Inner f) = IfSome inner (HasFault job.inner_key f)
+BytesShow job inner outer (status.OpenFault side.Outer) = IfSome inner (IsTable job.inner_key)
+BytesShow job inner outer (status.ReadFault side.Outer) = IfSome inner (IsTable job.inner_key)
+BytesShow job inner outer (status.TooLong side.Outer) = IfSome inner (IsTable job.inner_key) × IfSome outer (λ o. input_limit < length o)
+BytesShow job inner outer (status.BadInput side.Outer f) = IfSome inner (IsTable job.inner_key) × IfSome outer (HasFault job.outer_key f)
+BytesShow job inner outer status.WriteFault = IfSome inner (IsTable job.inner_key) × IfSome outer (IsTable job.outer_key)
+BytesShow job inner outer status.NoMemory = Unit {0}
+
+-- the counts of faults of two inputs
+pub record Counts : Type 0 where
+  pub opens : Side → ℕ
+  pub reads : Side → ℕ
+
+abbrev pub counts_of : {I : Type 0} → (I → Side → ℕ) → (I → Side → ℕ) → I → Counts
+counts_of opens reads inputs = record { opens = opens inputs; reads = reads inputs }
+
+-- no fault was counted on a side
+abbrev pub IsQuiet : Counts → Counts → Side → Type 0
+IsQuiet before now s = (now.opens s ≡ before.opens s) × (now.reads s ≡ before.reads s)
+
+-- what the counts of faults, of the inputs and then of the sink, show of each answer
+abbrev pub CountsShow : Counts → Counts → ℕ → ℕ → Status → Type 0
+CountsShow before now faults faults' status.Done = IsQuiet before now side.Inner × IsQuiet before now side.Outer × (faults' ≡ faults)
+CountsShow before now faults faults' status.Words = ⊥
+CountsShow before now faults faults' (status.OpenFault side.Inner) = Rose (before.opens side.Inner) (now.opens side.Inner) × (faults' ≡ faults)
+CountsShow before now faults faults' (status.ReadFault side.Inner) = Rose (before.reads side.Inner) (now.reads side.Inner) × (faults' ≡ faults)
+CountsShow before now faults faults' (status.TooLong side.Inner) = IsQuiet before now side.Inner × (faults' ≡ faults)
+CountsShow before now faults faults' (status.BadInput side.Inner f) = IsQuiet before now side.Inner × (faults' ≡ faults)
+CountsShow before now faults faults' (status.OpenFault side.Outer) =
+    IsQuiet before now side.Inner × Rose (before.opens side.Outer) (now.opens side.Outer) × (faults' ≡ faults)
+CountsShow before now faults faults' (status.ReadFault side.Outer) =
+    IsQuiet before now side.Inner × Rose (before.reads side.Outer) (now.reads side.Outer) × (faults' ≡ faults)
+CountsShow before now faults faults' (status.TooLong side.Outer) = IsQuiet before now side.Inner × IsQuiet before now side.Outer × (faults' ≡ faults)
+CountsShow before now faults faults' (status.BadInput side.Outer f) = IsQuiet before now side.Inner × IsQuiet before now side.Outer × (faults' ≡ faults)
+CountsShow before now faults faults' status.WriteFault = IsQuiet before now side.Inner × IsQuiet before now side.Outer × Rose faults faults'
+CountsShow before now faults faults' status.NoMemory = faults' ≡ faults
+
+-- what each answer has left written: all of the text, a proper front of it after a failed write, any front of it after
+-- want of memory, and else nothing
+abbrev pub Leaves : Option (List ℕ) → Option (List ℕ) → Option (List ℕ) → Status → Type 0
+Leaves old new text status.Done = IfSome text (λ t. Appends old new t)
+Leaves old new text status.WriteFault = IfSome text (λ t. AppendsPart old new t)
+Leaves old new text status.NoMemory = IfSome text (λ t. AppendsFront old new t)
+Leaves old new text status.Words = new ≡ old
+Leaves old new text (status.OpenFault s) = new ≡ old
+Leaves old new text (status.ReadFault s) = new ≡ old
+Leaves old new text (status.TooLong s) = new ≡ old
+Leaves old new text (status.BadInput s f) = new ≡ old
+
+-- no fault rose on a side
+pub record NoneRose (before now : Counts) (s : Side) : Type 0 where
+  pub opens : Rose (before.opens s) (now.opens s) → ⊥
+  pub reads : Rose (before.reads s) (now.reads s) → ⊥
+
+-- no fault rose in the calls that come before this answer
+abbrev pub NoFaultBefore : Counts → Counts → ℕ → ℕ → Status → Type 0
+NoFaultBefore before now faults faults' (status.TooLong side.Inner) = NoneRose before now side.Inner
+NoFaultBefore before now faults faults' (status.BadInput side.Inner f) = NoneRose before now side.Inner
+NoFaultBefore before now faults faults' (status.TooLong side.Outer) = NoneRose before now side.Inner × NoneRose before now side.Outer
+NoFaultBefore before now faults faults' (status.BadInput side.Outer f) = NoneRose before now side.Inner × NoneRose before now side.Outer
+NoFaultBefore before now faults faults' s = NoneRose before now side.Inner × NoneRose before now side.Outer × (Rose faults faults' → ⊥)
+
+-- where no fault rose before it, a join gives the answer that the bytes decide, or memory ran out
+abbrev pub Decided : Job → Option (List ℕ) → Option (List ℕ) → Counts → Counts → ℕ → ℕ → Status → Type 0
+Decided job inner outer before now faults faults' result =
+    IfSome (answer_of job inner outer) (λ s. NoFaultBefore before now faults faults' s → (result ≡ s) ⊎ (result ≡ status.NoMemory))
+
+-- the status of a refused input
+abbrev pub refusal_of : Side → LoadFault → Status
+refusal_of s load.Open = status.OpenFault s
+refusal_of s load.Read = status.ReadFault s
+refusal_of s load.TooLong = status.TooLong s
+refusal_of s (load.Bad f) = status.BadInput s f
+refusal_of s load.NoMemory = status.NoMemory
+
+-- the text that a list of words asks for, where the bytes of both inputs are told
+abbrev pub text_for : Option Job → (List ℕ → Option (List ℕ)) → Option (List ℕ)
+text_for None held = None
+text_for (Some job) held = told_text job (held job.inner) (held job.outer)

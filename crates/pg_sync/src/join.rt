@@ -1,0 +1,118 @@
+//! A join from the inputs to the sink.
+
+ghost use Rattle.std.specs.Prelude.{◌≡◌, ◌<◌};
+ghost use Rattle.csv_tables.specs.Causes.{Prints};
+ghost use Rattle.csv_tables.specs.Text.{joined_text};
+ghost use Rattle.row_model.specs.declared.Side.TheVariants as side;
+ghost use Rattle.pg_sync.specs.Answer.{BytesShow, CountsShow, Decided, Leaves, counts_of, refusal_of, told_text};
+ghost use Rattle.pg_sync.specs.Words.{job_at};
+
+use crate::status::Status;
+use crate::words::JoinWords;
+use csv_tables::{Inputs, LoadFault, PrintFault, Sink, load, print};
+use join_engine::join_rows;
+use proc_table::{Gate, Steps};
+use row_model::{Plan, Rows, Side};
+use std::alloc::Global;
+use std::marker::{Brand, Sync};
+use std::sync::Wait;
+use std::sync::ledger::{Blank, Ledger};
+use std::thread::Threads;
+
+// The status of a refused input.
+fn refusal(side: Side, fault: LoadFault) -> Status
+    ensures { result ≡ refusal_of side fault }
+{
+    match fault {
+        LoadFault::Open => Status::OpenFault(side),
+        LoadFault::Read => Status::ReadFault(side),
+        LoadFault::TooLong => Status::TooLong(side),
+        LoadFault::Bad(fault) => Status::BadInput(side, fault),
+        LoadFault::NoMemory => Status::NoMemory,
+    }
+}
+
+// Joins two tables, and prints the pairs.
+fn print_join<R: Threads + Wait + Sync, S: Sink, G: Gate, L: Ledger>(
+    blank: Blank,
+    rt: &R,
+    alloc: Global,
+    inner: &Rows,
+    outer: &Rows,
+    plan: Plan,
+    out: &mut S,
+    gate: &G,
+) -> Result<(), PrintFault>
+    requires name { blank.name ≡ L.name }
+    requires parts { blank.parts ≡ L.parts }
+    requires some { 0 < blank.parts }
+    requires workers { plan.workers ≡ 1 }
+    ensures { Prints (S.taken out.old) (S.taken out.new) (S.faults out.old) (S.faults out.new) (joined_text outer.now inner.now) result }
+{
+    let mut steps = [Steps::<L>::new(blank)];
+    match join_rows(rt, alloc, inner, outer, plan, gate, &mut steps) {
+        Ok(joined) => print(alloc, outer, inner, &joined.pairs, out),
+        Err(_) => Err(PrintFault::NoMemory),
+    }
+}
+
+// Joins the inputs of these names by their keys, and writes the text of the join.
+fn join_inputs<R: Threads + Wait + Sync, I: Inputs, S: Sink, G: Gate>(
+    rt: &R,
+    alloc: Global,
+    job: &JoinWords<'_>,
+    inputs: &mut I,
+    out: &mut S,
+    gate: &G,
+) -> Status
+    requires inner { I.may_open inputs.old side.Inner job.now.inner.now }
+    requires outer { I.may_open inputs.old side.Outer job.now.outer.now }
+    requires workers { job.now.plan.workers ≡ 1 }
+    ensures bytes { BytesShow (job_at job.now) (I.held inputs.old job.now.inner.now) (I.held inputs.old job.now.outer.now) result }
+    ensures counts { CountsShow (counts_of I.open_faults I.read_faults inputs.old) (counts_of I.open_faults I.read_faults inputs.new) (S.faults out.old) (S.faults out.new) result }
+    ensures written { Leaves (S.taken out.old) (S.taken out.new) (told_text (job_at job.now) (I.held inputs.old job.now.inner.now) (I.held inputs.old job.now.outer.now)) result }
+{
+    let inner = match load(alloc, inputs, Side::Inner, job.inner, job.inner_key) {
+        Ok(rows) => rows,
+        Err(fault) => return refusal(Side::Inner, fault),
+    };
+    let outer = match load(alloc, inputs, Side::Outer, job.outer, job.outer_key) {
+        Ok(rows) => rows,
+        Err(fault) => return refusal(Side::Outer, fault),
+    };
+    match print_join::<R, S, G, Brand>(
+        Blank::new(1),
+        rt,
+        alloc,
+        &inner,
+        &outer,
+        job.plan,
+        out,
+        gate,
+    ) {
+        Ok(()) => Status::Done,
+        Err(PrintFault::Write) => Status::WriteFault,
+        Err(PrintFault::NoMemory) => Status::NoMemory,
+    }
+}
+
+/// Joins the inputs of these names by their keys, and writes the text of the join.
+pub fn run_join<R: Threads + Wait + Sync, I: Inputs, S: Sink, G: Gate>(
+    rt: &R,
+    alloc: Global,
+    job: &JoinWords<'_>,
+    inputs: &mut I,
+    out: &mut S,
+    gate: &G,
+) -> Status
+    requires inner { I.may_open inputs.old side.Inner job.now.inner.now }
+    requires outer { I.may_open inputs.old side.Outer job.now.outer.now }
+    requires workers { job.now.plan.workers ≡ 1 }
+    ensures written { Leaves (S.taken out.old) (S.taken out.new) (told_text (job_at job.now) (I.held inputs.old job.now.inner.now) (I.held inputs.old job.now.outer.now)) result }
+    ensures bytes { BytesShow (job_at job.now) (I.held inputs.old job.now.inner.now) (I.held inputs.old job.now.outer.now) result }
+    ensures counts { CountsShow (counts_of I.open_faults I.read_faults inputs.old) (counts_of I.open_faults I.read_faults inputs.new) (S.faults out.old) (S.faults out.new) result }
+    ensures completeness { Decided (job_at job.now) (I.held inputs.old job.now.inner.now) (I.held inputs.old job.now.outer.now)
+        (counts_of I.open_faults I.read_faults inputs.old) (counts_of I.open_faults I.read_faults inputs.new) (S.faults out.old) (S.faults out.new) result }
+{
+    join_inputs(rt, alloc, job, inputs, out, gate)
+}

@@ -1,0 +1,73 @@
+//! Joins two CSV files by a key, and prints the rows that meet.
+#![tactic(auto)]
+
+mod join;
+mod line;
+mod run;
+mod status;
+mod words;
+
+use crate::line::write_line;
+use crate::run::run;
+use crate::status::Status;
+use csv_tables::{FileInputs, Sink, StderrSink, StdoutSink};
+use proc_table::{NoMemory, OpenGate};
+use std::env;
+use std::io::{ErrorKind, Write};
+use std::marker::Sync;
+use std::process::ExitCode;
+use std::rt::{Env, Files};
+use std::sync::Wait;
+use std::thread::Threads;
+
+// The words after the program's name, or none where one of them is no UTF-8.
+fn words_of<R: Env + AllocGlobal>(rt: &R) -> Result<Vec<String>, NoMemory> {
+    let mut words = Vec::new(rt.alloc());
+    match env::args(rt) {
+        Ok(arguments) => {
+            for word in arguments.skip(1) {
+                words.push(word)?;
+            }
+            Ok(words)
+        }
+        Err(error) if error.kind() == ErrorKind::OutOfMemory => Err(NoMemory),
+        Err(_) => Ok(words),
+    }
+}
+
+// Runs the program's words on files and the standard streams. Standard output gathers what it
+// takes, so its last write may fail after the join is done.
+fn run_process<R: Threads + Wait + Sync + Env + Files + AllocGlobal, O: Write + Drop, E: Sink>(
+    rt: &R,
+    stdout: O,
+    err: &mut E,
+) -> Result<Status, NoMemory>
+where
+    R::File: Drop,
+{
+    let words = words_of(rt)?;
+    let mut inputs = FileInputs::new(rt);
+    let mut out = StdoutSink::new(rt.alloc(), stdout)?;
+    let status = run(
+        rt,
+        rt.alloc(),
+        words.as_slice(),
+        &mut inputs,
+        &mut out,
+        err,
+        &OpenGate,
+    );
+    match out.flush() {
+        Err(_) if status == Status::Done => Ok(write_line(Status::WriteFault, err)),
+        _ => Ok(status),
+    }
+}
+
+fn main(rt: HostRuntime) -> ExitCode {
+    let mut err = StderrSink::new(rt.stderr());
+    let status = match run_process(&rt, rt.stdout(), &mut err) {
+        Ok(status) => status,
+        Err(NoMemory) => write_line(Status::NoMemory, &mut err),
+    };
+    ExitCode::from(status.number())
+}

@@ -1,0 +1,61 @@
+//! The top call.
+
+ghost use Rattle.std.specs.Prelude.{◌≡◌, ◌↔◌, map, string_bytes, None, IfSome};
+ghost use Rattle.row_model.specs.declared.Side.TheVariants as side;
+ghost use Rattle.pg_sync.specs.Answer.{BytesShow, CountsShow, Decided, Leaves, counts_of, text_for};
+ghost use Rattle.pg_sync.specs.Line.{TakesLine, line_of};
+ghost use Rattle.pg_sync.specs.Words.{command_of};
+
+use crate::join::run_join;
+use crate::line::write_line;
+use crate::status::Status;
+use crate::words::{Command, read_words};
+use csv_tables::{Inputs, Sink};
+use proc_table::Gate;
+use std::alloc::Global;
+use std::marker::Sync;
+use std::sync::Wait;
+use std::thread::Threads;
+
+/// Runs the command that the words name: a join writes to `out` exactly the bytes of the
+/// nested-loop join by one thread and answers `Done`, or answers the first refusal that applies.
+/// A refusal writes nothing to `out`, save that a failed write or want of memory leaves a front of
+/// the text, and prints its line on `err`.
+pub fn run<R: Threads + Wait + Sync, I: Inputs, S: Sink, E: Sink, G: Gate>(
+    rt: &R,
+    alloc: Global,
+    words: &[String],
+    inputs: &mut I,
+    out: &mut S,
+    err: &mut E,
+    gate: &G,
+) -> Status
+    requires inner { IfSome (command_of (map string_bytes words.now)) (λ job. I.may_open inputs.old side.Inner job.inner) }
+    requires outer { IfSome (command_of (map string_bytes words.now)) (λ job. I.may_open inputs.old side.Outer job.outer) }
+
+    // Words exactly where the words name no command.
+    ensures grammar { (result ≡ Status.Words) ↔ (command_of (map string_bytes words.now) ≡ None) }
+
+    // Done with the whole text, and each refusal with what it may leave of it.
+    ensures written { Leaves (S.taken out.old) (S.taken out.new) (text_for (command_of (map string_bytes words.now)) (I.held inputs.old)) result }
+
+    // Each answer of a join has its cause: in the bytes, and in the counts of faults.
+    ensures bytes { IfSome (command_of (map string_bytes words.now)) (λ job. BytesShow job (I.held inputs.old job.inner) (I.held inputs.old job.outer) result) }
+    ensures counts { IfSome (command_of (map string_bytes words.now)) (λ _. CountsShow (counts_of I.open_faults I.read_faults inputs.old)
+        (counts_of I.open_faults I.read_faults inputs.new) (S.faults out.old) (S.faults out.new) result) }
+
+    // Where no fault comes before it, a join answers what the bytes decide, or memory ran out.
+    ensures completeness { IfSome (command_of (map string_bytes words.now)) (λ job. Decided job (I.held inputs.old job.inner) (I.held inputs.old job.outer)
+        (counts_of I.open_faults I.read_faults inputs.old) (counts_of I.open_faults I.read_faults inputs.new) (S.faults out.old) (S.faults out.new) result) }
+
+    // The line of the answer, or a proper front of it where a write of it failed.
+    ensures err_line { TakesLine (E.taken err.old) (E.taken err.new) (E.faults err.old) (E.faults err.new) (line_of result) }
+{
+    match read_words(words) {
+        None => write_line(Status::Words, err),
+        Some(Command::Join(job)) => {
+            let status = run_join(rt, alloc, &job, inputs, out, gate);
+            write_line(status, err)
+        }
+    }
+}
