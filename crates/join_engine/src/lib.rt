@@ -1,14 +1,16 @@
-//! The pairs of rows that meet.
+//! The pairs of rows that meet, by a hash table of the inner rows.
 #![tactic(auto)]
 
-ghost use Rattle.std.specs.Prelude.{◌≡◌, length, IfOk};
+ghost use Rattle.std.specs.Prelude.{◌≡◌, ◌+◌, ◌≤◌, length, sum, IfOk};
 ghost use Rattle.row_model.specs.Table.{nested_loop};
+ghost use Rattle.join_engine.specs.Looks.{look_bound};
 
+mod chains;
 mod hashed;
+#[cfg(test)]
 mod nested;
 
-pub use hashed::hashed_pairs;
-pub use nested::nested_pairs;
+use hashed::hashed_pairs;
 use proc_table::{Gate, NoMemory, Steps};
 use row_model::{Pair, Plan, Rows};
 use std::alloc::Global;
@@ -17,13 +19,15 @@ use std::sync::Wait;
 use std::sync::ledger::Ledger;
 use std::thread::Threads;
 
-/// The pairs of a join.
+/// The pairs of a join, by the numbers of their rows.
 #[derive(Drop)]
 pub struct Joined {
     pub pairs: Vec<Pair>,
 }
 
-/// The pairs of two nested loops, in their order: outer row first, then inner row.
+/// Joins two tables: the pairs of two nested loops, in their order, which is by the outer row
+/// and then by the inner row. One counter a worker counts the looks at keys, also where memory
+/// runs out (PostgreSQL's `ExecHashJoin`).
 pub fn join_rows<R: Threads + Wait + Sync, G: Gate, L: Ledger>(
     _rt: &R,
     alloc: Global,
@@ -36,6 +40,7 @@ pub fn join_rows<R: Threads + Wait + Sync, G: Gate, L: Ledger>(
     requires workers { plan.workers ≡ 1 }
     requires counters { length steps.old ≡ 1 }
     ensures pairs { IfOk result (λ j. j.pairs.items ≡ nested_loop outer.now inner.now) }
+    ensures looks { sum steps.new ≤ sum steps.old + look_bound outer.now inner.now }
 {
     let Some(counter) = steps.first_mut() else {
         unreachable!()
@@ -43,3 +48,6 @@ pub fn join_rows<R: Threads + Wait + Sync, G: Gate, L: Ledger>(
     let pairs = hashed_pairs(alloc, outer, inner, counter)?;
     Ok(Joined { pairs })
 }
+
+#[cfg(test)]
+mod tests;

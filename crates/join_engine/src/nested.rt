@@ -1,4 +1,4 @@
-//! Two nested loops.
+//! The join of the definition, by two nested loops: what `hashed` is compared with.
 
 ghost use Rattle.std.specs.Prelude.{◌≡◌, ◌++◌, ◌<◌, ℕ, length, IfOk, OnOk};
 ghost use Rattle.row_model.specs.Table.{nested_loop, pairs_of};
@@ -22,18 +22,15 @@ fn pair_row<L: Ledger>(
 {
     'inner: for i in 0..inner.len() {
         if same(outer, o, inner, i, steps) {
-            let pair = Pair { outer: o, inner: i };
-            if pairs.push(pair).is_err() {
-                return Err(NoMemory);
-            }
+            pairs.push(Pair { outer: o, inner: i })?;
         }
     }
     Ok(())
 }
 
-/// Each outer row with each inner row that it meets, in order.
+// Each outer row with each inner row that it meets, in order.
 #[tactic(auto, using(crate::proofs::PairFacts::steps), unfolding(row_model::specs::Table::nested_loop))]
-pub fn nested_pairs<L: Ledger>(
+pub(crate) fn nested_pairs<L: Ledger>(
     alloc: Global,
     outer: &Rows,
     inner: &Rows,

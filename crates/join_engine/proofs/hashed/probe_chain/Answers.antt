@@ -1,0 +1,60 @@
+use Rattle.std.proofs.Common.{◌≡◌, ◌∙◌, ◌++◌, ℕ, ◌+◌, Option, Some, ◌∷◌, length, get_or, refl, sym, arith}
+use Rattle.std.specs.Prelude.{slice_get}
+use Rattle.row_model.specs.Table.{Table, pairs_of}
+use Rattle.join_engine.specs.declared.chains.Chains.{Chains}
+use Rattle.join_engine.specs.Chains.{row_at, IsChained}
+use Rattle.join_engine.specs.Looks.{rows_from}
+use Rattle.join_engine.proofs.ChainFacts.{chain_at, chain_at-first, confirmed-whole, first-chain_at, hit-more, link-is, miss-same}
+use Rattle.join_engine.proofs.hashed.probe_chain.Goals as goal
+use Rattle.join_engine.proofs.hashed.probe_chain.Goals.{then-same+in_ok-push, else-same}
+
+pub chain-init : goal.chain-init
+chain-init g c =
+    let first = c.first-candidate.ensures ∙ c.requires.chained.heads c.args.hash in
+    let all = chain_at-first c.args.inner.now 0 c.args.hash c.first-candidate.result first in
+    record {
+      known = first-chain_at c.args.inner.now 0 c.args.hash c.first-candidate.result first;
+      pairs = rw (all, confirmed-whole c.args.outer.now c.args.inner.now c.args.o c.args.hash c.requires.hash) refl;
+      looks = rw all (omega arith);
+    }
+
+pub same-requires-clause-inner : goal.same-requires-clause-inner
+same-requires-clause-inner g c = (link-is c.args.inner.now c.args.hash c.in-Some.i (rw c.in-Some.is at c.chain.invariant.known)).within
+
+pub after-candidate-requires : goal.after-candidate-requires
+after-candidate-requires g c = rw c.requires.chained.count ((link-is c.args.inner.now c.args.hash c.in-Some.i (rw c.in-Some.is at c.chain.invariant.known)).within)
+
+-- the chain from the candidate on, and its successor
+record IsStep (t : Table) (hash i : ℕ) (after : Option ℕ) : Type 0 where
+  here : chain_at t hash (Some i) ≡ i ∷ rows_from t (i + 1) hash
+  there : chain_at t hash after ≡ rows_from t (i + 1) hash
+  known : after ≡ slice_get (chain_at t hash after) 0
+
+step-is : (t : Table) (chains : Chains) (hash i : ℕ) (after : Option ℕ) → IsChained t chains → Some i ≡ slice_get (chain_at t hash (Some i)) 0
+    → after ≡ row_at (length chains.next.items) (get_or chains.next.items i 0) → IsStep t hash i after
+step-is t chains hash i after chained known is =
+    let link = link-is t hash i known in
+    let first : after ≡ slice_get (rows_from t (i + 1) hash) 0 = rw chained.count at is ∙ chained.next i hash (omega arith) link.within link.hash_is in
+    record { here = link.rest; there = chain_at-first t (i + 1) hash after first; known = first-chain_at t (i + 1) hash after first }
+
+pub chain-smaller : goal.chain-smaller
+chain-smaller g c =
+    let step = step-is c.args.inner.now c.args.chains.now c.args.hash c.in-Some.i c.after-candidate.result c.requires.chained (rw c.in-Some.is at c.chain.invariant.known) c.after-candidate.ensures in
+    rw (c.in-Some.is, step.here, step.there) (omega arith)
+
+pub chain-preserved : goal.chain-preserved
+chain-preserved g c =
+    let step = step-is c.args.inner.now c.args.chains.now c.args.hash c.in-Some.i c.after-candidate.result c.requires.chained (rw c.in-Some.is at c.chain.invariant.known) c.after-candidate.ensures in
+    let all = rw (c.in-Some.is, step.here) at c.chain.invariant.pairs in
+    let left = rw (c.in-Some.is, step.here) at c.chain.invariant.looks in
+    let rows = rows_from c.args.inner.now (c.in-Some.i + 1) c.args.hash in
+    let meets = c.same.ensures.meets in
+    let whole = c.args.pairs.now.items ++ pairs_of c.args.outer.now c.args.inner.now c.args.o in
+    record {
+      known = step.known;
+      pairs = rw step.there (elim c.if-same.branch [
+        | then-same+in_ok-push w ↦ hit-more c.args.outer.now c.args.inner.now c.args.o c.in-Some.i rows c.chain.pairs.items c.if-same.pairs.items whole (sym meets ∙ w.if-same.true) (rw w.pairs-is w.in_ok-push.ensures.items) all
+        | else-same w ↦ rw w.pairs-is (miss-same c.args.outer.now c.args.inner.now c.args.o c.in-Some.i rows c.chain.pairs.items whole (sym meets ∙ w.if-same.false) all)
+      ]);
+      looks = rw step.there (omega arith);
+    }
