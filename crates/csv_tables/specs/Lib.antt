@@ -3,3 +3,4 @@ pub mod Causes
 pub mod Text
 pub mod Sides
 pub mod Memory
+pub mod RowWriter

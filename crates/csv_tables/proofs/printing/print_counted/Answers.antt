@@ -1,16 +1,12 @@
-use Rattle.std.proofs.Common.{◌≡◌, ◌∙◌, sym}
-use Rattle.csv_tables.proofs.ReadFacts.{on_err_true, on_ok_false}
-use Rattle.csv_tables.proofs.SinkFacts.{part_before, prints_after}
+use Rattle.std.proofs.Common.{◌≡◌, ◌∙◌, [], sym, refl}
+use Rattle.std.proofs.lemmas.Result.{err_from_is_err_and}
+use Rattle.csv_tables.proofs.SinkFacts.{appends-none, prints_after, prints_cut}
 use Rattle.csv_tables.proofs.printing.print_counted.Goals as goal
 
-pub returns-then-is_err : goal.returns-then-is_err
-returns-then-is_err g c =
-    let failed = sym c.is_err.ensures.value ∙ c.if-is_err.true in
-    let part = rw (c.as_slice.ensures.value, c.in-Ok.ensures) at (on_err_true c.write_all.result _ failed c.write_all.ensures.err) in
-    (part_before _ _ _ _ part, on_err_true c.write_all.result _ failed c.write_all.ensures.cause.failed)
+pub returns-in_err-print_row : goal.returns-in_err-print_row
+returns-in_err-print_row g c =
+    let p = err_from_is_err_and c.from_residual.result c.from_residual.ensures.1 in
+    rw (p.1, p.2) (prints_cut _ _ _ _ _ _ [] _ _ _ _ refl (appends-none (g.S.Sink.taken c.args.out.now)) refl c.in_err-print_row.ensures.prints)
 
 pub returns : goal.returns
-returns g c =
-    let fine = sym c.is_err.ensures.value ∙ c.if-is_err.false in
-    let line = rw (c.as_slice.ensures.value, c.in-Ok.ensures) at (on_ok_false c.write_all.result _ fine c.write_all.ensures.ok) in
-    prints_after _ _ _ _ _ _ _ _ c.print_pairs.result line (on_ok_false c.write_all.result _ fine c.write_all.ensures.cause.kept) c.print_pairs.ensures
+returns g c = prints_after _ _ _ _ _ _ _ _ c.print_pairs.result c.in_ok-print_row.ensures.prints.0 c.in_ok-print_row.ensures.prints.1 c.print_pairs.ensures
