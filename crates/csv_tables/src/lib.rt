@@ -74,3 +74,6 @@ impl From<Failed> for PrintFault {
         PrintFault::Write
     }
 }
+
+#[cfg(test)]
+mod tests;

@@ -1,6 +1,8 @@
-//! The sinks of a process. They tell no contents: this is the trusted edge.
+//! The sinks of a process, over its two output streams. What they take, they tell as far as the
+//! stream does, and a real one tells nothing: this is the trusted edge.
 
-ghost use Rattle.std.specs.Prelude.{◌<◌, ◌≤◌, IfOk, length};
+ghost use Rattle.std.specs.Prelude.{◌<◌, ◌≤◌, IfOk, OnErr, length, take};
+ghost use Rattle.std.specs.Io.KnownBytes.{Appends, Keeps};
 ghost use Rattle.csv_tables.specs.Causes.{HasCause};
 
 use crate::inputs::Failed;
@@ -40,9 +42,9 @@ impl<W: Write + Drop> StdoutSink<W> {
 }
 
 impl<W: Write + Drop> Sink for StdoutSink<W> {
-    ghost use Rattle.std.specs.Prelude.{None};
+    ghost use Rattle.std.specs.Io.Buffered.{writer_contents};
 
-    ghost taken = { λ _. None };
+    ghost taken = { λ s. writer_contents W.contents s.writer };
 
     ghost faults = { λ s. s.faults };
 
@@ -66,9 +68,7 @@ impl<W: Write + Drop> StderrSink<W> {
 }
 
 impl<W: Write + Drop> Sink for StderrSink<W> {
-    ghost use Rattle.std.specs.Prelude.{None};
-
-    ghost taken = { λ _. None };
+    ghost taken = { λ s. W.contents s.writer };
 
     ghost faults = { λ s. s.faults };
 
@@ -81,6 +81,8 @@ impl<W: Write + Drop> Sink for StderrSink<W> {
 fn write_some<W: Write>(writer: &mut W, faults: &mut u64, piece: &[u8]) -> Result<usize, Failed>
     ensures some { IfOk result (λ n. 0 < n) }
     ensures count { IfOk result (λ n. n ≤ length piece.now) }
+    ensures bytes { IfOk result (λ n. Appends (W.contents writer.old) (W.contents writer.new) (take n piece.now)) }
+    ensures none { OnErr result (Keeps (W.contents writer.old) (W.contents writer.new)) }
     ensures cause { HasCause faults.old faults.new result }
 {
     match writer.write(piece) {

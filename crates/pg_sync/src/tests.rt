@@ -1,0 +1,349 @@
+//! Whole runs over inputs and sinks in memory: worked examples, each refusal with its line, and
+//! faults in mid-stream.
+
+use crate::run::run;
+use crate::status::Status;
+use csv_tables::{MemInputs, MemSink};
+use proc_table::{NoMemory, OpenGate};
+use row_model::{RowFault, Side};
+use std::alloc::Global;
+use std::marker::Sync;
+use std::sync::Wait;
+use std::test::Fail;
+use std::thread::Threads;
+
+const PEOPLE: &str = "id,name\n1,Ann\n2,Bob\n";
+
+const ORDERS: &str = "oid,id\n10,2\n11,1\n12,3\n";
+
+// How a run ended: its status, and what it wrote to the two sinks.
+#[derive(Drop)]
+struct Ended {
+    status: Status,
+    out: MemSink,
+    err: MemSink,
+}
+
+// Which calls fail: opens and reads together, writes of the text, and writes of the line.
+#[derive(Clone, Copy)]
+struct Failing {
+    input: Option<u64>,
+    out: Option<u64>,
+    err: Option<u64>,
+}
+
+const NOTHING: Failing = Failing {
+    input: None,
+    out: None,
+    err: None,
+};
+
+fn listed(alloc: Global, call: Option<u64>) -> Result<Vec<u64>, NoMemory> {
+    let mut calls = Vec::new(alloc);
+    if let Some(call) = call {
+        calls.push(call)?;
+    }
+    Ok(calls)
+}
+
+fn owned(alloc: Global, words: &[&str]) -> Result<Vec<String>, NoMemory> {
+    let mut all = Vec::new(alloc);
+    for word in words {
+        all.push(String::from_str(alloc, word)?)?;
+    }
+    Ok(all)
+}
+
+fn file(alloc: Global, name: &str, bytes: &[u8]) -> Result<(String, Vec<u8>), NoMemory> {
+    Ok((
+        String::from_str(alloc, name)?,
+        Vec::from_slice(alloc, bytes)?,
+    ))
+}
+
+// Runs these words where the inner input is held as `i` and the outer one as `o`.
+fn run_words<R: Threads + Wait + Sync + AllocGlobal>(
+    rt: &R,
+    words: &[&str],
+    inner: &[u8],
+    outer: &[u8],
+    failing: Failing,
+) -> Result<Ended, NoMemory> {
+    let alloc = rt.alloc();
+    let mut files = Vec::new(alloc);
+    files.push(file(alloc, "i", inner)?)?;
+    files.push(file(alloc, "o", outer)?)?;
+    let mut inputs = MemInputs::new(files, listed(alloc, failing.input)?, 1000);
+    let mut out = MemSink::new(alloc, listed(alloc, failing.out)?, 5, 10_000)?;
+    let mut err = MemSink::new(alloc, listed(alloc, failing.err)?, 100, 100)?;
+    let words = owned(alloc, words)?;
+    let status = run(
+        rt,
+        alloc,
+        words.as_slice(),
+        &mut inputs,
+        &mut out,
+        &mut err,
+        &OpenGate,
+    );
+    Ok(Ended { status, out, err })
+}
+
+// Joins two texts by these keys.
+fn join<R: Threads + Wait + Sync + AllocGlobal>(
+    rt: &R,
+    keys: (&str, &str),
+    inner: &[u8],
+    outer: &[u8],
+    failing: Failing,
+) -> Result<Ended, NoMemory> {
+    let words = [
+        "join",
+        "i",
+        "o",
+        "--inner-key",
+        keys.0,
+        "--outer-key",
+        keys.1,
+        "--workers",
+        "1",
+    ];
+    run_words(rt, &words, inner, outer, failing)
+}
+
+#[test]
+fn texts_of_small_joins(rt: HostRuntime) {
+    // key, inner, outer, text
+    let cases = [
+        (
+            "id",
+            PEOPLE,
+            ORDERS,
+            "oid,id,id,name\n10,2,2,Bob\n11,1,1,Ann\n",
+        ),
+        ("id", "id,name\n", ORDERS, "oid,id,id,name\n"),
+        ("k", "k\na\na\n", "k\na\na\n", "k,k\na,a\na,a\na,a\na,a\n"),
+        ("k", "k,v\n,1\na,2\n", "k,w\n,3\n", "k,w,k,v\n"),
+        (
+            "id",
+            "id,t\r\n1,\"a,b\"\r\n",
+            "id\n1",
+            "id,id,t\n1,1,\"a,b\"\n",
+        ),
+        (
+            "k",
+            "k\ncostarring\nliquid\n",
+            "k\nliquid\n",
+            "k,k\nliquid,liquid\n",
+        ),
+        (
+            "k",
+            "k\n\"a\"\"b\"\n",
+            "k,n\n\"a\"\"b\",\"1\n2\"\n",
+            "k,n,k\n\"a\"\"b\",\"1\n2\",\"a\"\"b\"\n",
+        ),
+    ];
+    for (key, inner, outer, text) in cases {
+        let ended = join(&rt, (key, key), inner.as_bytes(), outer.as_bytes(), NOTHING);
+        let ended = ended.expect(&rt, "memory");
+        assert_eq!(rt; ended.status, Status::Done, "of {text}");
+        assert_eq!(rt; ended.out.taken(), text.as_bytes());
+        assert!(rt; ended.err.taken().is_empty());
+    }
+}
+
+#[test]
+fn refusals_and_their_lines(rt: HostRuntime) {
+    let (i, o) = (Side::Inner, Side::Outer);
+    let ragged = RowFault::Ragged { number: 3 };
+    // key, inner, outer, status, line
+    let cases = [
+        (
+            "id",
+            "",
+            "",
+            Status::BadInput(i, RowFault::NoHeader),
+            "pg_sync: inner input: no header\n",
+        ),
+        (
+            "a",
+            "a\n1\n",
+            "a,b\n1,2\n3\n",
+            Status::BadInput(o, ragged),
+            "pg_sync: outer input: record 3 has another length\n",
+        ),
+        (
+            "id",
+            "id,id\n",
+            "",
+            Status::BadInput(i, RowFault::TwoKeys),
+            "pg_sync: inner input: two such keys\n",
+        ),
+        (
+            "id",
+            "x,y\n",
+            "",
+            Status::BadInput(i, RowFault::NoKey),
+            "pg_sync: inner input: no such key\n",
+        ),
+        (
+            "id",
+            "x,y\n1\n",
+            "",
+            Status::BadInput(i, RowFault::NoKey),
+            "pg_sync: inner input: no such key\n",
+        ),
+        (
+            "id",
+            PEOPLE,
+            "",
+            Status::BadInput(o, RowFault::NoHeader),
+            "pg_sync: outer input: no header\n",
+        ),
+    ];
+    for (key, inner, outer, status, line) in cases {
+        let ended = join(&rt, (key, key), inner.as_bytes(), outer.as_bytes(), NOTHING);
+        let ended = ended.expect(&rt, "memory");
+        assert_eq!(rt; ended.status, status);
+        assert_eq!(rt; ended.err.taken(), line.as_bytes());
+        assert!(rt; ended.out.taken().is_empty());
+    }
+}
+
+#[test]
+fn words_that_name_no_command(rt: HostRuntime) {
+    let cases: [&[&str]; 5] = [
+        &[],
+        &["join", "i", "o", "--workers", "1"],
+        &[
+            "join",
+            "i",
+            "o",
+            "--inner-key",
+            "id",
+            "--outer-key",
+            "id",
+            "--workers",
+            "0",
+        ],
+        &[
+            "join",
+            "--i",
+            "o",
+            "--inner-key",
+            "id",
+            "--outer-key",
+            "id",
+            "--workers",
+            "1",
+        ],
+        &[
+            "join",
+            "i",
+            "",
+            "--inner-key",
+            "id",
+            "--outer-key",
+            "id",
+            "--workers",
+            "1",
+        ],
+    ];
+    for words in cases {
+        let ended = run_words(&rt, words, PEOPLE.as_bytes(), ORDERS.as_bytes(), NOTHING);
+        let ended = ended.expect(&rt, "memory");
+        assert_eq!(rt; ended.status, Status::Words);
+        assert_eq!(rt; ended.err.taken(), b"pg_sync: wrong words\n".as_slice());
+        assert!(rt; ended.out.taken().is_empty());
+    }
+}
+
+#[test]
+fn an_input_has_4096_bytes_at_most(rt: HostRuntime) -> Result<(), Fail> {
+    let alloc = rt.alloc();
+    let cases = [
+        (4096, Status::BadInput(Side::Inner, RowFault::NoKey)),
+        (4097, Status::TooLong(Side::Inner)),
+    ];
+    for (size, status) in cases {
+        let inner = vec![in alloc; b'x'; size]?;
+        let ended = join(&rt, ("id", "id"), inner.as_slice(), b"", NOTHING);
+        assert_eq!(rt; ended.expect(&rt, "memory").status, status);
+    }
+    Ok(())
+}
+
+#[test]
+fn faults_in_mid_stream(rt: HostRuntime) {
+    // The fifth call is the first read of the outer input.
+    let cases = [
+        (
+            Failing {
+                input: Some(1),
+                ..NOTHING
+            },
+            Status::OpenFault(Side::Inner),
+            "",
+            "pg_sync: cannot open inner input\n",
+        ),
+        (
+            Failing {
+                input: Some(2),
+                ..NOTHING
+            },
+            Status::ReadFault(Side::Inner),
+            "",
+            "pg_sync: cannot read inner input\n",
+        ),
+        (
+            Failing {
+                input: Some(4),
+                ..NOTHING
+            },
+            Status::OpenFault(Side::Outer),
+            "",
+            "pg_sync: cannot open outer input\n",
+        ),
+        (
+            Failing {
+                input: Some(5),
+                ..NOTHING
+            },
+            Status::ReadFault(Side::Outer),
+            "",
+            "pg_sync: cannot read outer input\n",
+        ),
+        (
+            Failing {
+                out: Some(2),
+                ..NOTHING
+            },
+            Status::WriteFault,
+            "oid,i",
+            "pg_sync: cannot write\n",
+        ),
+        (
+            Failing {
+                input: Some(1),
+                out: None,
+                err: Some(1),
+            },
+            Status::OpenFault(Side::Inner),
+            "",
+            "",
+        ),
+    ];
+    for (failing, status, text, line) in cases {
+        let ended = join(
+            &rt,
+            ("id", "id"),
+            PEOPLE.as_bytes(),
+            ORDERS.as_bytes(),
+            failing,
+        );
+        let ended = ended.expect(&rt, "memory");
+        assert_eq!(rt; ended.status, status);
+        assert_eq!(rt; ended.out.taken(), text.as_bytes());
+        assert_eq!(rt; ended.err.taken(), line.as_bytes());
+    }
+}
