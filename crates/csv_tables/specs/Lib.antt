@@ -1,5 +1,7 @@
 pub mod Records
-pub mod Causes
+pub mod Faults
+pub mod Loading
+pub mod Appending
 pub mod Text
 pub mod Sides
 pub mod Memory

@@ -1,7 +1,7 @@
 //! Inputs in files. They tell no contents: this is the trusted edge.
 
 ghost use Rattle.std.specs.Prelude.{◌≤◌, IsSome, IfOk, length};
-ghost use Rattle.csv_tables.specs.Causes.{HasCause};
+ghost use Rattle.csv_tables.specs.Faults.{HasCause};
 
 use crate::inputs::{Failed, Inputs};
 use row_model::Side;

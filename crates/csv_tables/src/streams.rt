@@ -3,7 +3,7 @@
 
 ghost use Rattle.std.specs.Prelude.{◌<◌, ◌≤◌, IfOk, OnErr, length, take};
 ghost use Rattle.std.specs.Io.KnownBytes.{Appends, Keeps};
-ghost use Rattle.csv_tables.specs.Causes.{HasCause};
+ghost use Rattle.csv_tables.specs.Faults.{HasCause};
 
 use crate::inputs::Failed;
 use crate::sink::Sink;

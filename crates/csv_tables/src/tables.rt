@@ -5,7 +5,9 @@ ghost use Rattle.csv.specs.Reading.{NotLengths, error_kind};
 ghost use Rattle.csv.specs.Records.{fields_of};
 ghost use Rattle.row_model.specs.Form.{fault_so_far, form_fault, table_of};
 ghost use Rattle.row_model.specs.declared.RowFault.{RowFault};
-ghost use Rattle.csv_tables.specs.Causes.{KeepsSide, ReadsAll, Loads, LoadCause, other};
+ghost use Rattle.csv_tables.specs.Faults.{KeepsSide};
+ghost use Rattle.csv_tables.specs.Sides.{other};
+ghost use Rattle.csv_tables.specs.Loading.{ReadsAll, Loads, LoadCause};
 ghost use Rattle.csv_tables.specs.Records.{records_of};
 
 use crate::LoadFault;

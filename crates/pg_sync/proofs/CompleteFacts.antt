@@ -5,7 +5,8 @@ use Rattle.std.proofs.lemmas.Bool.{le-ltb, lt-ltb}
 use Rattle.row_model.specs.declared.RowFault.{RowFault}
 use Rattle.row_model.specs.declared.Side.TheVariants as side
 use Rattle.row_model.specs.Form.{form_fault}
-use Rattle.csv_tables.specs.Causes.{Rose, input_limit}
+use Rattle.csv_tables.specs.Faults.{Rose}
+use Rattle.csv_tables.specs.Loading.{input_limit}
 use Rattle.csv_tables.specs.Records.{records_of}
 use Rattle.pg_sync.specs.declared.status.Status.{Status}
 use Rattle.pg_sync.specs.declared.status.Status.TheVariants as status

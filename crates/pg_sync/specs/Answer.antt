@@ -7,7 +7,9 @@ use Rattle.row_model.specs.declared.Side.TheVariants as side
 use Rattle.row_model.specs.Form.{form_fault, table_of}
 use Rattle.csv_tables.specs.declared.LoadFault.{LoadFault}
 use Rattle.csv_tables.specs.declared.LoadFault.TheVariants as load
-use Rattle.csv_tables.specs.Causes.{Rose, AppendsPart, AppendsFront, input_limit}
+use Rattle.csv_tables.specs.Faults.{Rose}
+use Rattle.csv_tables.specs.Loading.{input_limit}
+use Rattle.csv_tables.specs.Appending.{AppendsPart, AppendsFront}
 use Rattle.csv_tables.specs.Records.{records_of}
 use Rattle.csv_tables.specs.Text.{joined_text}
 use Rattle.pg_sync.specs.declared.status.Status.{Status}

@@ -5,7 +5,8 @@ use Rattle.row_model.specs.declared.Side.{Side}
 use Rattle.row_model.specs.declared.Side.TheVariants as side
 use Rattle.row_model.specs.declared.RowFault.{RowFault}
 use Rattle.row_model.specs.declared.RowFault.TheVariants as fault
-use Rattle.csv_tables.specs.Causes.{Rose, AppendsPart}
+use Rattle.csv_tables.specs.Faults.{Rose}
+use Rattle.csv_tables.specs.Appending.{AppendsPart}
 use Rattle.pg_sync.specs.declared.status.Status.{Status}
 use Rattle.pg_sync.specs.declared.status.Status.TheVariants as status
 

@@ -1,7 +1,7 @@
 //! A join from the inputs to the sink.
 
 ghost use Rattle.std.specs.Prelude.{◌≡◌, ◌<◌};
-ghost use Rattle.csv_tables.specs.Causes.{Prints};
+ghost use Rattle.csv_tables.specs.Appending.{Prints};
 ghost use Rattle.csv_tables.specs.Text.{joined_text};
 ghost use Rattle.row_model.specs.declared.Side.TheVariants as side;
 ghost use Rattle.pg_sync.specs.Answer.{BytesShow, CountsShow, Decided, Leaves, counts_of, refusal_of, told_text};
