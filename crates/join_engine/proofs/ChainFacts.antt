@@ -4,7 +4,7 @@ use Rattle.std.specs.Prelude.{slice_get, sum_by, unwrap_or}
 use Rattle.std.specs.List.{filter}
 use Rattle.std.specs.Str.{bytes_eq}
 use Rattle.std.proofs.lemmas.Bool.{cases_Bool, and_parts, cases_eq, cases_lt, false≢true, eq-eqb, eqb-true, lt-ltb, le-ltb}
-use Rattle.std.proofs.lemmas.List.{append_assoc, drop_more, drop_all, get_or-set_same, get_or-set_other}
+use Rattle.std.proofs.lemmas.List.{append-nil, append_assoc, drop_more, drop_all, get_or-set_same, get_or-set_other}
 use Rattle.std.proofs.lemmas.List.FromFn.{length-range_with_len, get_or-range_with_len}
 use Rattle.std.proofs.lemmas.List.Sums.{sum_by-cons}
 use Rattle.std.proofs.lemmas.Slice.Eq.{bytes_eq-Decides}
@@ -102,14 +102,6 @@ link-is t hash row e =
 -- an outer row with each of these inner rows that it meets
 abbrev pub confirmed : Table → Table → ℕ → List ℕ → List Pair
 confirmed outer inner o rows = map (λ i. record { outer = o; inner = i }) (filter (λ i. meets (key_of outer o) (key_of inner i)) rows)
-
-pub confirmed-hit : (outer inner : Table) (o i : ℕ) (rows : List ℕ) → meets (key_of outer o) (key_of inner i) ≡ true
-    → confirmed outer inner o (i ∷ rows) ≡ record { outer = o; inner = i } ∷ confirmed outer inner o rows
-confirmed-hit outer inner o i rows hit = rw hit refl
-
-pub confirmed-miss : (outer inner : Table) (o i : ℕ) (rows : List ℕ) → meets (key_of outer o) (key_of inner i) ≡ false
-    → confirmed outer inner o (i ∷ rows) ≡ confirmed outer inner o rows
-confirmed-miss outer inner o i rows miss = rw miss refl
 
 -- a stricter test of what passed one
 filter-filter : {X : Type 0} (p q : X → Bool) (xs : List X) → ((x : X) → p x ≡ true → q x ≡ true) → filter p (filter q xs) ≡ filter p xs
@@ -214,12 +206,11 @@ linked-same t next place after succ e linked = λ row h le few key. elim (cases_
   | inr other ↦ (let later : after ≤ row = omega (arith, other) in linked row h later few key)
 ]
 
--- a candidate that is confirmed goes to the pairs, and one that isn't changes nothing
-pub hit-more : (outer inner : Table) (o i : ℕ) (rows : List ℕ) (pairs more whole : List Pair) → meets (key_of outer o) (key_of inner i) ≡ true
-    → more ≡ pairs ++ record { outer = o; inner = i } ∷ [] → pairs ++ confirmed outer inner o (i ∷ rows) ≡ whole → more ++ confirmed outer inner o rows ≡ whole
-hit-more outer inner o i rows pairs more whole hit is all =
-    rw (is, append_assoc pairs (record { outer = o; inner = i } ∷ []) (confirmed outer inner o rows)) (rw (confirmed-hit outer inner o i rows hit) at all)
-
-pub miss-same : (outer inner : Table) (o i : ℕ) (rows : List ℕ) (pairs whole : List Pair) → meets (key_of outer o) (key_of inner i) ≡ false
-    → pairs ++ confirmed outer inner o (i ∷ rows) ≡ whole → pairs ++ confirmed outer inner o rows ≡ whole
-miss-same outer inner o i rows pairs whole miss all = rw (confirmed-miss outer inner o i rows miss) at all
+-- a candidate goes to the pairs if it meets the outer row
+pub confirmed-more : (outer inner : Table) (o i : ℕ) (rows : List ℕ) (pairs more whole : List Pair)
+    → more ≡ pairs ++ cond (meets (key_of outer o) (key_of inner i)) (record { outer = o; inner = i } ∷ []) []
+    → pairs ++ confirmed outer inner o (i ∷ rows) ≡ whole → more ++ confirmed outer inner o rows ≡ whole
+confirmed-more outer inner o i rows pairs more whole is all = elim (cases_Bool (meets (key_of outer o) (key_of inner i))) [
+  | inl hit ↦ rw (rw hit at is, append_assoc pairs (record { outer = o; inner = i } ∷ []) (confirmed outer inner o rows)) (rw hit at all)
+  | inr miss ↦ rw (rw miss at is, append-nil pairs) (rw miss at all)
+]

@@ -1,8 +1,8 @@
 //! The join by a hash table of the inner rows, which each outer row probes.
 
-ghost use Rattle.std.specs.Prelude.{◌≡◌, ◌++◌, ◌+◌, ◌<◌, ◌≤◌, Some, length, IfOk, OnOk};
+ghost use Rattle.std.specs.Prelude.{◌≡◌, ◌++◌, ◌∷◌, ◌+◌, ◌<◌, ◌≤◌, [], Some, length, IfOk, OnOk, if◌then◌else◌};
 ghost use Rattle.row_model.specs.Hash.{hash_of_key};
-ghost use Rattle.row_model.specs.Table.{key_of, nested_loop, pairs_of};
+ghost use Rattle.row_model.specs.Table.{key_of, meets, nested_loop, pairs_of};
 ghost use Rattle.join_engine.specs.Chains.{IsChained};
 ghost use Rattle.join_engine.specs.Looks.{candidates, look_bound};
 
@@ -12,7 +12,27 @@ use row_model::{Pair, Rows, same};
 use std::alloc::Global;
 use std::sync::ledger::Ledger;
 
-// Adds the pairs of an outer row whose key has this hash. Each row of the chain is confirmed.
+// Adds the pair of an outer row and a candidate, if they meet.
+fn confirm<L: Ledger>(
+    outer: &Rows,
+    o: u32,
+    inner: &Rows,
+    i: u32,
+    pairs: &mut Vec<Pair>,
+    steps: &mut Steps<L>,
+) -> Result<(), NoMemory>
+    requires outer { o < length outer.now.rows }
+    requires inner { i < length inner.now.rows }
+    ensures pairs { OnOk result (pairs.new.items ≡ pairs.old.items ++ (if meets (key_of outer.now o) (key_of inner.now i) then record { outer = o; inner = i } ∷ [] else [])) }
+    ensures look { steps.new ≡ steps.old + 1 }
+{
+    if same(outer, o, inner, i, steps) {
+        pairs.push(Pair { outer: o, inner: i })?;
+    }
+    Ok(())
+}
+
+// Adds the pairs of an outer row whose key has this hash.
 fn probe_chain<L: Ledger>(
     chains: &Chains,
     hash: u32,
@@ -30,9 +50,7 @@ fn probe_chain<L: Ledger>(
 {
     let mut candidate = chains.first(hash);
     'chain: while let Some(i) = candidate {
-        if same(outer, o, inner, i, steps) {
-            pairs.push(Pair { outer: o, inner: i })?;
-        }
+        confirm(outer, o, inner, i, pairs, steps)?;
         candidate = chains.after(i);
     }
     Ok(())

@@ -1,12 +1,11 @@
-use Rattle.std.proofs.Common.{◌≡◌, ◌∙◌, ◌++◌, ℕ, ◌+◌, Option, Some, ◌∷◌, length, get_or, refl, sym, arith}
+use Rattle.std.proofs.Common.{◌≡◌, ◌∙◌, ℕ, ◌+◌, Option, Some, ◌∷◌, length, get_or, refl, arith}
 use Rattle.std.specs.Prelude.{slice_get}
-use Rattle.row_model.specs.Table.{Table, pairs_of}
+use Rattle.row_model.specs.Table.{Table}
 use Rattle.join_engine.specs.declared.chains.Chains.{Chains}
 use Rattle.join_engine.specs.Chains.{row_at, IsChained}
 use Rattle.join_engine.specs.Looks.{rows_from}
-use Rattle.join_engine.proofs.ChainFacts.{chain_at, chain_at-first, confirmed-whole, first-chain_at, hit-more, link-is, miss-same}
+use Rattle.join_engine.proofs.ChainFacts.{chain_at, chain_at-first, confirmed-more, confirmed-whole, first-chain_at, link-is}
 use Rattle.join_engine.proofs.hashed.probe_chain.Goals as goal
-use Rattle.join_engine.proofs.hashed.probe_chain.Goals.{then-same+in_ok-push, else-same}
 
 pub chain-init : goal.chain-init
 chain-init g c =
@@ -18,8 +17,8 @@ chain-init g c =
       looks = rw all (omega arith);
     }
 
-pub same-requires-clause-inner : goal.same-requires-clause-inner
-same-requires-clause-inner g c = (link-is c.args.inner.now c.args.hash c.in-Some.i (rw c.in-Some.is at c.chain.invariant.known)).within
+pub confirm-requires-clause-inner : goal.confirm-requires-clause-inner
+confirm-requires-clause-inner g c = (link-is c.args.inner.now c.args.hash c.in-Some.i (rw c.in-Some.is at c.chain.invariant.known)).within
 
 pub after-candidate-requires : goal.after-candidate-requires
 after-candidate-requires g c = rw c.requires.chained.count ((link-is c.args.inner.now c.args.hash c.in-Some.i (rw c.in-Some.is at c.chain.invariant.known)).within)
@@ -48,13 +47,8 @@ chain-preserved g c =
     let all = rw (c.in-Some.is, step.here) at c.chain.invariant.pairs in
     let left = rw (c.in-Some.is, step.here) at c.chain.invariant.looks in
     let rows = rows_from c.args.inner.now (c.in-Some.i + 1) c.args.hash in
-    let meets = c.same.ensures.meets in
-    let whole = c.args.pairs.now.items ++ pairs_of c.args.outer.now c.args.inner.now c.args.o in
     record {
       known = step.known;
-      pairs = rw step.there (elim c.if-same.branch [
-        | then-same+in_ok-push w ↦ hit-more c.args.outer.now c.args.inner.now c.args.o c.in-Some.i rows c.chain.pairs.items c.if-same.pairs.items whole (sym meets ∙ w.if-same.true) (rw w.pairs-is w.in_ok-push.ensures.items) all
-        | else-same w ↦ rw w.pairs-is (miss-same c.args.outer.now c.args.inner.now c.args.o c.in-Some.i rows c.chain.pairs.items whole (sym meets ∙ w.if-same.false) all)
-      ]);
+      pairs = rw step.there (confirmed-more c.args.outer.now c.args.inner.now c.args.o c.in-Some.i rows c.chain.pairs.items c.confirm.new.pairs.items _ c.in_ok-confirm.ensures.pairs all);
       looks = rw step.there (omega arith);
     }
