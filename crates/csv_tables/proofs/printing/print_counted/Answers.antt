@@ -1,4 +1,4 @@
-use Rattle.std.proofs.Common.{◌≡◌, ◌∙◌, [], sym, refl}
+use Rattle.std.proofs.Common.{[], refl}
 use Rattle.std.proofs.lemmas.Result.{err_from_is_err_and}
 use Rattle.csv_tables.proofs.SinkFacts.{appends-none, prints_after, prints_cut}
 use Rattle.csv_tables.proofs.printing.print_counted.Goals as goal

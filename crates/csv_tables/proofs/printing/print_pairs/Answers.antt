@@ -1,6 +1,5 @@
-use Rattle.std.proofs.Common.{◌≡◌, ◌∙◌, ◌++◌, ◌+◌, ◌<◌, [], length, sym, take, drop, arith}
+use Rattle.std.proofs.Common.{◌∙◌, ◌<◌, length, arith}
 use Rattle.row_model.specs.declared.Pair.{Pair}
-use Rattle.std.specs.List.{flat_map}
 use Rattle.std.proofs.lemmas.Result.{err_from_is_err_and}
 use Rattle.csv_tables.specs.Text.{pair_text}
 use Rattle.csv_tables.proofs.SinkFacts.{appends-more, flat_map-more, front_after, prints_cut, flat_map-halves, flat_map-split}
