@@ -1,11 +1,11 @@
 -- What a builder of all the records of a text finishes as.
-use Rattle.std.proofs.Common.{◌≡◌, ◌∙◌, ℕ, List, Result, Ok, Err, Some, None, refl, sym}
+use Rattle.std.proofs.Common.{◌≡◌, ℕ, List, Result, Ok, Err, Some, None}
 use Rattle.std.specs.Result.{IfOk}
 use Rattle.row_model.specs.Table.{Table}
 use Rattle.row_model.specs.declared.RowFault.{RowFault}
 use Rattle.row_model.specs.declared.RecordFault.{RecordFault}
 use Rattle.row_model.specs.declared.RecordFault.TheVariants as cause
-use Rattle.row_model.specs.Form.{or_else, form_fault, table_of}
+use Rattle.row_model.specs.Form.{form_fault, table_of}
 use Rattle.row_model.specs.Layout.{Building, Finishes}
 
 pub finishes-table : (b : Building) (key : List ℕ) (records : List (List (List ℕ))) (r : Result Table RecordFault) → b.refusal ≡ None → b.key ≡ key → b.records ≡ records

@@ -1,4 +1,4 @@
-use Rattle.std.proofs.Common.{◌≡◌, ◌∙◌, ◌<◌, length, sym, arith}
+use Rattle.std.proofs.Common.{◌∙◌, ◌<◌, length, sym, arith}
 use Rattle.csv_tables.proofs.MemoryFacts.{bytes_at-is, bytes_at-past}
 use Rattle.csv_tables.proofs.mem_inputs.file_bytes.Goals as goal
 

@@ -1,4 +1,4 @@
-use Rattle.std.proofs.Common.{◌≡◌, ◌∙◌, sym}
+use Rattle.std.proofs.Common.{◌∙◌, sym}
 use Rattle.csv_tables.proofs.MemoryFacts.{held-hit, held-miss}
 use Rattle.csv_tables.proofs.mem_inputs.find_file.Goals as goal
 

@@ -1,4 +1,4 @@
-use Rattle.std.proofs.Common.{◌≡◌, ◌∙◌, ◌+◌, ◌-◌, sym, length, drop, arith}
+use Rattle.std.proofs.Common.{◌≡◌, ◌+◌, ◌-◌, length, drop, arith}
 use Rattle.std.proofs.lemmas.List.{length-take}
 use Rattle.csv_tables.proofs.MemoryFacts.{read-piece}
 use Rattle.csv_tables.proofs.mem_inputs.read_at.Goals as goal

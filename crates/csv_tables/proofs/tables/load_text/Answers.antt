@@ -1,11 +1,10 @@
-use Rattle.std.proofs.Common.{Bor, List, ℕ, ◌≡◌, ◌∙◌, ◌<◌, ◌≤◌, sym, refl, ap, inl, inr, rules, Some, None, Err, ◌∷◌, ◌++◌, [], length, arith}
+use Rattle.std.proofs.Common.{Bor, List, ℕ, ◌∙◌, sym, refl, inl, inr, rules, Some, ◌∷◌, ◌++◌, [], arith}
 use Rattle.std.proofs.lemmas.List.{length-append}
-use Rattle.csv.specs.Reading.{Reached, default_config, strip_bom, source_of}
+use Rattle.csv.specs.Reading.{Reached, default_config, strip_bom}
 use Rattle.csv.specs.Records.{fields_of}
 use Rattle.csv.specs.declared.parser.State.TheVariants as st
 use Rattle.csv.proofs.ReadFacts.{rows-end, rows-more}
-use Rattle.row_model.specs.Form.{fault_so_far, form_fault, table_of}
-use Rattle.row_model.specs.declared.RecordFault.TheVariants as cause
+use Rattle.row_model.specs.Form.{fault_so_far}
 use Rattle.row_model.proofs.FormFacts.{form-front}
 use Rattle.csv_tables.specs.Records.{records_of}
 use Rattle.csv_tables.proofs.LoadFacts.{finishes-table, finishes-bad}
