@@ -1,0 +1,101 @@
+-- Each lock's word counts its holders, after each kind of step and each move.
+use Rattle.std.proofs.Common.{◌≡◌, ℕ, ◌+◌, ◌-◌, ◌<◌, ◌≤◌, Bool, true, cond, List, [], ◌∷◌, ◌++◌, length, map, set, get_or, Option, None, Some, sym, refl, ap, ◌∙◌, subst, arith, get_or-set_same, get_or-set_other}
+use mathlib.Core.Logic.{dite}
+use mathlib.Core.Option as maybe
+use native.Mathlib.Decide.{ℕ_discrete}
+use lib.ListN.{get_elem?}
+use lib.Seq.{set-get_or}
+use Rattle.proc_table.specs.declared.Mode.{Mode}
+use Rattle.lw_core.specs.declared.step.Call.TheVariants.{Try, Release, WaitForVar}
+use Rattle.lw_core.specs.declared.step.LwStep.{LwStep}
+use Rattle.lw_core.specs.declared.step.LwStep.TheVariants.{Load, Grant, Refuse, Sub, Peek, GuardLoad, GuardStore}
+use Rattle.lw_core.specs.declared.view.Hold.{Hold}
+use Rattle.lw_core.specs.declared.view.Frame.TheVariants.{Trying}
+use Rattle.lw_core.specs.declared.view.View.{View}
+use Rattle.lw_core.specs.declared.view.Size.{Size}
+use Rattle.lw_core.specs.Totals.{total}
+use Rattle.lw_core.specs.Roster.{count, one_if}
+use Rattle.lw_core.specs.Words.{state_at, guard_at, grant_of, grant_held, is_free}
+use Rattle.lw_core.specs.Machine.{LwState, outer, not_held, held, hold_in, mode_in, learnt, written, word_of, lock_of, becomes, moved, gripped, next, Allowed, after, HoldsNothing}
+use Rattle.lw_core.specs.CountsHolders.{is_shared, is_exclusive, CountsHolders}
+use Rattle.lw_core.specs.Rule.{numbers_of, EachCountsHolders, Rule}
+use Rattle.lw_core.specs.Runs.{drew_one, stays, comes, both, spent, drawn, split, joined}
+use Rattle.lw_core.proofs.Totals.{total_map, total_sum_le}
+use Rattle.lw_core.proofs.Stretches.{frame, seen, seen_more, at_seen, unseen, for_same}
+use Rattle.lw_core.proofs.Holders.{one_mode, counts_granted, counts_released, counts_more}
+use Rattle.lw_core.proofs.Touches.{on_exchange, some_mode, hold_here, hold_else, word_of_lock, fresh_hold}
+use Rattle.lw_core.proofs.Places as places
+
+abbrev mode_of : Hold → Option Mode
+mode_of h = h.mode
+
+module _ (lawful : ℕ → List ℕ → Type 0) (z : Size) (s : LwState) (r : Rule lawful z s) where
+  -- few seats hold a lock, since each has a number of its own
+  few_holders : (l : ℕ) → total is_shared (map (mode_in l) s.views) + total is_exclusive (map (mode_in l) s.views) ≤ 64
+  few_holders l =
+      let a = total_map is_shared (mode_in l) s.views in let b = total_map is_exclusive (mode_in l) s.views in let c = total_map count numbers_of s.views in
+      let most = total_sum_le (λ (u : View). is_shared (mode_in l u)) (λ (u : View). is_exclusive (mode_in l u)) (λ (u : View). count (numbers_of u)) s.views (λ i u e. one i u e u.own refl) in
+      let few = r.roster.few in let counted = r.roster.counted in let procs = r.sized.procs in omega arith
+    where
+      one : (i : ℕ) (u : View) → get_elem? s.views i ≡ maybe.some u → (o : Option ℕ) → u.own ≡ o → is_shared (mode_in l u) + is_exclusive (mode_in l u) ≤ count (numbers_of u)
+      one i u e None own = let free = (places.mine lawful z s r i u e).unnumbered own l in let a : is_shared (mode_in l u) ≡ 0 = ap is_shared free in let b : is_exclusive (mode_in l u) ≡ 0 = ap is_exclusive free in omega arith
+      one i u e (Some p) own = let a = one_mode (mode_in l u) in let b : one_if u.own ≡ 1 = ap one_if own in omega arith
+
+  module _ (id : ℕ) (v : View) (at : get_elem? s.views id ≡ maybe.some v) where
+    -- the word of l and the mode of the seat are what they were
+    same : (l : ℕ) (words : List ℕ) (w : View) → l < z.locks → get_or words (state_at l) 0 ≡ get_or s.words (state_at l) 0 → mode_in l w ≡ mode_in l v
+        → CountsHolders (get_or words (state_at l) 0) (map (mode_in l) (set s.views id w))
+    same l words w below word mode = for_same _ _ word (λ (x : ℕ). CountsHolders x (map (mode_in l) (set s.views id w))) (for_same _ _ (unseen (mode_in l) s.views id v w at mode) (CountsHolders (get_or s.words (state_at l) 0)) (r.counts l below))
+
+    -- the seat has another mode of l, and the word fits
+    other : (l n : ℕ) (o : Option Mode) (w : View) → l < z.locks → mode_in l w ≡ o → CountsHolders n (set (map (mode_in l) s.views) id o)
+        → CountsHolders (get_or (set s.words (state_at l) n) (state_at l) 0) (map (mode_in l) (set s.views id w))
+    other l n o w below mode c = let wide = r.sized.long in for_same _ _ (get_or-set_same s.words (state_at l) n 0 (omega arith)) (λ (x : ℕ). CountsHolders x (map (mode_in l) (set s.views id w)))
+        (for_same _ _ (seen (mode_in l) s.views id w o mode) (CountsHolders n) c)
+
+    read : (l : ℕ) (w : View) → l < z.locks → mode_in l w ≡ mode_in l v → CountsHolders (get_or (set s.words (state_at l) (get_or s.words (state_at l) 0)) (state_at l) 0) (map (mode_in l) (set s.views id w))
+    read l w below mode = same l (set s.words (state_at l) (get_or s.words (state_at l) 0)) w below (ap (λ (x : List ℕ). get_or x (state_at l) 0) (set-get_or s.words (state_at l) 0)) mode
+
+    inside_holds : (l : ℕ) → l < z.locks → l < length v.holds
+    inside_holds l below = let long = (places.mine lawful z s r id v at).long in let most = r.sized.locks in omega arith
+
+    -- the lock that the step is on
+    here : (k : LwStep) → lock_of k < z.locks → (v.own ≡ None → ⊥) → Allowed lawful k v → let n = get_or s.words (word_of k) 0 in
+        CountsHolders (get_or (set s.words (word_of k) (becomes k v n)) (state_at (lock_of k)) 0) (map (mode_in (lock_of k)) (set s.views id (next k v n)))
+    here (Load l b) below numbered ok = read l _ below refl
+    here (Grant l m w) below numbered ok = let n : ℕ = get_or s.words (state_at l) 0 in let k : LwStep = Grant l m w in let now = places.tries lawful z s r id v at l w m ok.0 in
+        on_exchange n w (λ (b : Bool). CountsHolders (get_or (set s.words (state_at l) (cond b (w + grant_of m) n)) (state_at l) 0) (map (mode_in l) (set s.views id (cond b (gripped v k n (outer v.place) (held m) (v.grants + 1)) (moved v k n (Trying l m n ∷ outer v.place))))))
+        (λ hit. other l (w + grant_of m) (Some m) _ below (ap mode_of (hold_here v k n (outer v.place) (held m) (v.grants + 1) (inside_holds l below)))
+        (subst (λ (x : ℕ). CountsHolders (x + grant_of m) (set (map (mode_in l) s.views) id (Some m))) hit
+        (counts_granted (map (mode_in l) s.views) id n m (at_seen (mode_in l) s.views id v None at now.0) (subst (λ (x : ℕ). is_free m x ≡ true) (sym hit) ok.1) (few_holders l) (r.counts l below))))
+        (λ miss. read l _ below refl)
+    here (Refuse l m w) below numbered ok = read l _ below refl
+    here (Sub l (Some (Release i))) below numbered ok = let n : ℕ = get_or s.words (state_at l) 0 in let k : LwStep = Sub l (Some (Release i)) in let is = some_mode (mode_in l v) ok.0.2 in
+        other l (n - grant_held (mode_in l v)) None _ below (ap mode_of (hold_here v k n v.place not_held v.grants (inside_holds l below)))
+        (subst (λ (x : Option Mode). CountsHolders (n - grant_held x) (set (map (mode_in l) s.views) id None)) (sym is.1) (counts_released (map (mode_in l) s.views) id n is.0 (at_seen (mode_in l) s.views id v (Some is.0) at is.1) (r.counts l below)))
+    here (Sub l (Some (Try i m))) below numbered ok = absurd ok.0
+    here (Sub l (Some (WaitForVar i old))) below numbered ok = absurd ok.0
+    here (Sub l None) below numbered ok = absurd ok.0
+    here (Peek l b) below numbered ok = read l _ below refl
+    here (GuardLoad l k) below numbered ok = let n : ℕ = get_or s.words (guard_at l k) 0 in same l (set s.words (guard_at l k) n) _ below (ap (λ (x : List ℕ). get_or x (state_at l) 0) (set-get_or s.words (guard_at l k) 0))
+        (ap mode_of (hold_here v (GuardLoad l k) n v.place (learnt (hold_in l v) k n) v.grants (inside_holds l below)))
+    here (GuardStore l k x) below numbered ok = let n : ℕ = get_or s.words (guard_at l k) 0 in same l (set s.words (guard_at l k) x) _ below (get_or-set_other s.words (guard_at l k) (state_at l) x 0 (λ e. omega arith))
+        (ap mode_of (hold_here v (GuardStore l k x) n v.place (written (hold_in l v) k x) v.grants (inside_holds l below)))
+
+    pub counts_step : (k : LwStep) → lock_of k < z.locks → (v.own ≡ None → ⊥) → Allowed lawful k v → EachCountsHolders z (after s id v k)
+    counts_step k inside numbered ok l below = let n : ℕ = get_or s.words (word_of k) 0 in let place = word_of_lock lawful k v ok in dite (ℕ_discrete l (lock_of k))
+        (λ is. subst (λ (i : ℕ). CountsHolders (get_or (set s.words (word_of k) (becomes k v n)) (state_at i) 0) (map (mode_in i) (set s.views id (next k v n)))) (sym is) (here k inside numbered ok))
+        (λ ne. frame (mode_in l) CountsHolders s.words (word_of k) (becomes k v n) (state_at l) s.views id v (next k v n) at (λ e. ne (omega arith)) (ap mode_of (hold_else k v n l ne)) (r.counts l below))
+
+    pub counts_draw : EachCountsHolders z (drawn s id v)
+    counts_draw l below = same l (set s.words 0 (get_or s.words 0 0 + 1)) (drew_one v) below (get_or-set_other s.words 0 (state_at l) (get_or s.words 0 0 + 1) 0 (λ e. omega arith)) refl
+
+    pub counts_split : EachCountsHolders z (split s id v)
+    counts_split l below = let none : mode_in l (comes v) ≡ None = ap mode_of (fresh_hold v.pending l) in
+        for_same _ _ (seen_more (mode_in l) (set s.views id (stays v)) (comes v)) (CountsHolders (get_or s.words (state_at l) 0))
+        (for_same _ _ none (λ (o : Option Mode). CountsHolders (get_or s.words (state_at l) 0) (map (mode_in l) (set s.views id (stays v)) ++ o ∷ []))
+        (counts_more (map (mode_in l) (set s.views id (stays v))) (get_or s.words (state_at l) 0) (same l s.words (stays v) below refl refl)))
+
+    pub counts_join : (other : ℕ) (w : View) → get_elem? (set s.views id (both v w)) other ≡ maybe.some w → HoldsNothing w → EachCountsHolders z (joined s id v other w)
+    counts_join other w there empty l below =
+        for_same _ _ (unseen (mode_in l) (set s.views id (both v w)) other w spent there (ap mode_of (fresh_hold None l) ∙ sym (empty l))) (CountsHolders (get_or s.words (state_at l) 0)) (same l s.words (both v w) below refl refl)

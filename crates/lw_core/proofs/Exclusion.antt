@@ -1,0 +1,71 @@
+-- What the rule says to the users of a lock.
+use Rattle.std.proofs.Common.{◌≡◌, ◌≢◌, ℕ, ◌<◌, List, get_or, set, map, Option, None, Some, sym, refl, ap, ◌∙◌, subst, arith, get_or-set_other}
+use mathlib.Core.Logic.{dite}
+use mathlib.Core.Option as maybe
+use native.Mathlib.Decide.{ℕ_discrete}
+use lib.ListN.{get_elem?}
+use lib.Seq.{set-get_or}
+use Rattle.proc_table.specs.declared.Mode.{Mode}
+use Rattle.proc_table.specs.declared.Mode.TheVariants.{Shared, Exclusive}
+use Rattle.lw_core.specs.declared.step.LwStep.{LwStep}
+use Rattle.lw_core.specs.declared.step.LwStep.TheVariants.{Load, Grant, Refuse, Sub, Peek, GuardLoad, GuardStore}
+use Rattle.lw_core.specs.declared.view.Hold.{Hold}
+use Rattle.lw_core.specs.declared.view.View.{View}
+use Rattle.lw_core.specs.declared.view.Size.{Size}
+use Rattle.lw_core.specs.Totals.{total}
+use Rattle.lw_core.specs.Words.{state_at, guard_at, guarded, Conflicts}
+use Rattle.lw_core.specs.Machine.{LwState, mode_in, hold_in, word_of, becomes, lock_of, Allowed}
+use Rattle.lw_core.specs.CountsHolders.{is_exclusive}
+use Rattle.lw_core.specs.Rule.{Rule}
+use Rattle.lw_core.specs.Promises.{HoldersAgree, UnheldAreLawful, WordsStand}
+use Rattle.lw_core.proofs.Totals.{total_map, total_none}
+use Rattle.lw_core.proofs.Stretches.{at_seen, map_twice}
+use Rattle.lw_core.proofs.Holders.{holders_agree}
+use Rattle.lw_core.proofs.Guarding.{lawful_unheld}
+use Rattle.lw_core.proofs.Touches.{guarded_same, guarded_off, some_mode}
+
+abbrev mode_of : Hold → Option Mode
+mode_of h = h.mode
+
+module _ (lawful : ℕ → List ℕ → Type 0) (z : Size) where
+  pub exclusion : (s : LwState) → Rule lawful z s → HoldersAgree z s
+  exclusion s r l i j v u m n below apart at there held held' = holders_agree (map (mode_in l) s.views) i j (get_or s.words (state_at l) 0) m n apart
+      (at_seen (mode_in l) s.views i v (Some m) at held) (at_seen (mode_in l) s.views j u (Some n) there held') (r.counts l below)
+
+  pub unheld : (s : LwState) → Rule lawful z s → UnheldAreLawful lawful z s
+  unheld s r l below free = lawful_unheld (lawful l) (guarded s.words l) (map (hold_in l) s.views) (r.guarded l below)
+      (subst (λ (x : List (Option Mode)). total is_exclusive x ≡ 0) (sym (map_twice mode_of (hold_in l) s.views))
+      (total_map is_exclusive (mode_in l) s.views ∙ total_none (λ (u : View). is_exclusive (mode_in l u)) s.views (λ i u at. none (mode_in l u) (free i u at))))
+    where
+      none : (o : Option Mode) → (o ≡ Some Exclusive → ⊥) → is_exclusive o ≡ 0
+      none None h = refl
+      none (Some Shared) h = refl
+      none (Some Exclusive) h = absurd (h refl)
+
+  pub stand : WordsStand lawful z
+  stand s t id holder l k v r e below at held own = subst (λ (x : LwState). guarded x.words l ≡ guarded s.words l) (sym e.is) (by_kind k e.lock e.allowed)
+    where
+      agree : (m n : Mode) (u : View) → id ≢ holder → get_elem? s.views id ≡ maybe.some u → mode_in l v ≡ Some m → mode_in l u ≡ Some n → Conflicts m n → ⊥
+      agree m n u apart there mine other = exclusion s r l holder id v u m n below apart at there mine other
+
+      conflict : (m : Mode) → Conflicts m Exclusive
+      conflict Shared = tt
+      conflict Exclusive = tt
+
+      -- nobody who steps here holds the lock exclusively
+      nobody : mode_in l e.view ≡ Some Exclusive → ⊥
+      nobody mine = dite (ℕ_discrete id holder)
+          (λ is. let same : e.view ≡ v = maybe.some-injective e.view v (sym e.at ∙ (ap (get_elem? s.views) is ∙ at)) in
+          let shared : mode_in l v ≡ Some Shared = own is in let exclusive : mode_in l v ≡ Some Exclusive = ap (mode_in l) (sym same) ∙ mine in absurd (cc))
+          (λ apart. let is = some_mode (mode_in l v) held in agree is.0 Exclusive e.view apart e.at is.1 mine (conflict is.0))
+
+      by_kind : (k : LwStep) → lock_of k < z.locks → Allowed lawful k e.view → guarded (set s.words (word_of k) (becomes k e.view (get_or s.words (word_of k) 0))) l ≡ guarded s.words l
+      by_kind (Load i b) inside ok = guarded_off s.words i _ l
+      by_kind (Grant i m w) inside ok = guarded_off s.words i _ l
+      by_kind (Refuse i m w) inside ok = guarded_off s.words i _ l
+      by_kind (Sub i b) inside ok = guarded_off s.words i _ l
+      by_kind (Peek i b) inside ok = guarded_off s.words i _ l
+      by_kind (GuardLoad i j) inside ok = ap (λ (x : List ℕ). guarded x l) (set-get_or s.words (guard_at i j) 0)
+      by_kind (GuardStore i j x) inside ok = let few = ok.0 in dite (ℕ_discrete l i)
+          (λ is. absurd (nobody (ap (λ (y : ℕ). mode_in y e.view) is ∙ ok.2)))
+          (λ ne. guarded_same (set s.words (guard_at i j) x) s.words l (λ y below. get_or-set_other s.words (guard_at i j) (guard_at l y) x 0 (λ same. ne (omega arith))))

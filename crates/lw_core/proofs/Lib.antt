@@ -1,0 +1,15 @@
+pub mod Totals
+pub mod Stretches
+pub mod Numbers
+pub mod Holders
+pub mod Guarding
+pub mod Touches
+pub mod Roster
+pub mod Moves
+pub mod Places
+pub mod Counts
+pub mod Guards
+pub mod RuleKeeps
+pub mod Exclusion
+pub mod Asks
+pub mod SeatLemmas

@@ -1,0 +1,14 @@
+pub mod Totals
+pub mod Roster
+pub mod Words
+pub mod Machine
+pub mod CountsHolders
+pub mod GuardedIsLawful
+pub mod SeatFits
+pub mod Rule
+pub mod Runs
+pub mod Told
+pub mod Ops
+pub mod Seats
+pub mod Closing
+pub mod Promises

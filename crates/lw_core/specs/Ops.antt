@@ -1,0 +1,49 @@
+-- The atomic operation behind each kind of step.
+use Rattle.std.specs.Prelude.{ℕ, ◌+◌, ◌-◌, ◌%◌, ◌^◌, ◌==◌, cond, List, Option, None, Some}
+use prog.Atomic.{either}
+use mathlib.Core.Option as maybe
+use Rattle.atomic_table.specs.Table.{Step, step, Allows}
+use Rattle.proc_table.specs.declared.Mode.{Mode}
+use Rattle.lw_core.specs.declared.step.LwStep.{LwStep}
+use Rattle.lw_core.specs.declared.step.LwStep.TheVariants.{Load, Grant, Refuse, Sub, Peek, GuardLoad, GuardStore}
+use Rattle.lw_core.specs.declared.step.WordOp.{WordOp}
+use Rattle.lw_core.specs.declared.step.WordOp.TheVariants as op
+use Rattle.lw_core.specs.declared.view.Size.{Size}
+use Rattle.lw_core.specs.Words.{Waiters, grant_of, grant_held}
+use Rattle.lw_core.specs.Rule.{Rule}
+use Rattle.lw_core.specs.Told.{Sat, does}
+
+-- what the operation makes of a word
+abbrev pub gives : WordOp → ℕ → ℕ
+gives op.Load n = n
+gives (op.Store value) n = value
+gives (op.Sub by) n = (n + (2 ^ 64 - by)) % 2 ^ 64
+gives (op.Change old new) n = either (n == old) new n
+
+-- the operation of a step by a seat that has the step's lock in this mode
+abbrev pub op_of : LwStep → Option Mode → WordOp
+op_of (Load l b) o = op.Load
+op_of (Grant l m w) o = op.Change w ((w + grant_of m) % 2 ^ 64)
+op_of (Refuse l m w) o = op.Change w w
+op_of (Sub l b) o = op.Sub (grant_held o)
+op_of (Peek l b) o = op.Load
+op_of (GuardLoad l k) o = op.Load
+op_of (GuardStore l k x) o = op.Store x
+
+-- the mode in which the seat has the lock after a step that found n
+abbrev pub mode_then : LwStep → Option Mode → ℕ → Option Mode
+mode_then (Load l b) o n = o
+mode_then (Grant l m w) o n = cond (n == w) (Some m) o
+mode_then (Refuse l m w) o n = o
+mode_then (Sub l b) o n = None
+mode_then (Peek l b) o n = o
+mode_then (GuardLoad l k) o n = o
+mode_then (GuardStore l k x) o n = o
+
+-- no play of this table says anything of the operands
+abbrev pub about : Step Waiters
+about = step 0 0 0 0 maybe.none
+
+-- what a step owes to the table: the rule is kept, and the seat's view goes on as the machine says
+abbrev pub Owes : (ℕ → List ℕ → Type 0) → Size → ℕ → ℕ → Sat → ℕ → (ℕ → ℕ) → LwStep → Type 0
+Owes lawful z slots id me word f k = Allows (Rule lawful z) slots id me word f (does lawful k about me)

@@ -1,0 +1,45 @@
+-- The statements of the laws over states and over runs.
+use Rattle.std.specs.Prelude.{◌≡◌, ℕ, ◌<◌, List, length, Some, IsSome}
+use mathlib.Core.Option as maybe
+use lib.ListN.{get_elem?}
+use Rattle.atomic_table.specs.Table.{opening}
+use Rattle.proc_table.specs.declared.Mode.{Mode}
+use Rattle.proc_table.specs.declared.Mode.TheVariants.{Shared, Exclusive}
+use Rattle.lw_core.specs.declared.step.LwStep.{LwStep}
+use Rattle.lw_core.specs.declared.view.View.{View}
+use Rattle.lw_core.specs.declared.view.Size.{Size}
+use Rattle.lw_core.specs.Words.{Waiters, word_count, guarded, Conflicts, Opens}
+use Rattle.lw_core.specs.Machine.{LwState, mode_in, fresh}
+use Rattle.lw_core.specs.Rule.{Rule}
+use Rattle.lw_core.specs.Runs.{Steps, Draws, Splits, Joins}
+
+-- a state that meets the rule, and one step of the kind k, give a state that meets the part
+abbrev pub KeptBy : (ℕ → List ℕ → Type 0) → Size → (LwState → Type 0) → LwStep → Type 0
+KeptBy lawful z Part k = (s t : LwState) (id : ℕ) → Rule lawful z s → Steps lawful z s id k t → Part t
+
+abbrev pub KeptByDraw : (ℕ → List ℕ → Type 0) → Size → (LwState → Type 0) → Type 0
+KeptByDraw lawful z Part = (s t : LwState) (id : ℕ) → Rule lawful z s → Draws z s id t → Part t
+
+abbrev pub KeptBySplit : (ℕ → List ℕ → Type 0) → Size → (LwState → Type 0) → Type 0
+KeptBySplit lawful z Part = (s t : LwState) (id : ℕ) → Rule lawful z s → Splits s id t → Part t
+
+abbrev pub KeptByJoin : (ℕ → List ℕ → Type 0) → Size → (LwState → Type 0) → Type 0
+KeptByJoin lawful z Part = (s t : LwState) (id other : ℕ) → Rule lawful z s → Joins s id other t → Part t
+
+-- the state of a new table: the opening words, and seat 0
+abbrev pub IsOpening : Size → LwState → Type 0
+IsOpening z s = (words : List ℕ) × (lists : List Waiters) × (length words ≡ word_count z) × Opens z.locks words × (s ≡ opening {S = Waiters} words lists (fresh (Some 0)))
+
+-- no two backends hold one lock in conflicting modes
+abbrev pub HoldersAgree : Size → LwState → Type 0
+HoldersAgree z s = (l i j : ℕ) (v u : View) (m n : Mode) → l < z.locks → (j ≡ i → ⊥) → get_elem? s.views i ≡ maybe.some v → get_elem? s.views j ≡ maybe.some u
+    → mode_in l v ≡ Some m → mode_in l u ≡ Some n → Conflicts m n → ⊥
+
+-- the four words of a lock that nobody holds exclusively are lawful
+abbrev pub UnheldAreLawful : (ℕ → List ℕ → Type 0) → Size → LwState → Type 0
+UnheldAreLawful lawful z s = (l : ℕ) → l < z.locks → ((i : ℕ) (v : View) → get_elem? s.views i ≡ maybe.some v → mode_in l v ≡ Some Exclusive → ⊥) → lawful l (guarded s.words l)
+
+-- while a seat holds a lock, no step of another changes its words; and none at all where it is held Shared
+abbrev pub WordsStand : (ℕ → List ℕ → Type 0) → Size → Type 0
+WordsStand lawful z = (s t : LwState) (id holder l : ℕ) (k : LwStep) (v : View) → Rule lawful z s → Steps lawful z s id k t → l < z.locks → get_elem? s.views holder ≡ maybe.some v
+    → IsSome (mode_in l v) → (id ≡ holder → mode_in l v ≡ Some Shared) → guarded t.words l ≡ guarded s.words l

@@ -1,0 +1,185 @@
+//! A table of locks.
+ghost use Rattle.std.specs.Prelude.{◌≡◌, ◌↔◌, ℕ, ◌+◌, ◌<◌, ◌≤◌, Some, IsSome, IsOk, IsErr, IfOk, IfErr, OnOk, OnErr, List, [], length, true, false};
+ghost use Rattle.proc_table.specs.declared.Mode.{Mode};
+ghost use Rattle.proc_table.specs.declared.Mode.TheVariants.{Exclusive};
+ghost use Rattle.lw_core.specs.declared.step.LwStep.TheVariants.{GuardLoad, GuardStore};
+ghost use Rattle.lw_core.specs.Told.{KnowsAll, Tells};
+ghost use Rattle.lw_core.specs.Runs.{drew_one, stays, both};
+ghost use Rattle.lw_core.specs.Closing.{Ends};
+ghost use Rattle.lw_core.specs.Machine.{lock_of, HoldsNothing, hold_in, known_at, mode_in, Allowed, next, exchanges, fresh};
+
+use crate::closed::LwClosed;
+use crate::rule::{DrawsOne, Guarded, Looks, LwRule, Newcomer, TakesIn};
+use crate::seat::LwSeat;
+use crate::step::{LwSeen, LwStep};
+use crate::turn::turn;
+use crate::view::{Size, View, Waiters};
+use crate::words::{opening_lists, opening_words};
+use atomic_table::Table;
+use proc_table::{LockNo, NoMemory, NoMoreProcs, ProcNo};
+use std::alloc::Global;
+use std::marker::{Brand, Model};
+
+/// A table of locks. To a contract it is its name and its numbers of locks and backends.
+#[derive(Drop)]
+pub struct LwTable<G: Guarded> {
+    table: Table<Waiters, View, Size, LwRule<G>, Global>,
+    size: Size,
+}
+
+impl<G: Guarded> Model for LwTable<G> {
+    ghost use Rattle.lw_core.specs.Seats.{TableView, IsTabled, table_view};
+
+    ghost Value = { TableView };
+
+    ghost view = { λ t. table_view t.table.shared.table_id t.size };
+
+    ghost invariant = { λ t. IsTabled t.table.shared.table_id t.table.shared.key t.size };
+}
+
+impl<G: Guarded> LwTable<G> {
+    /// A table of 1 to 200 locks for 1 to 64 backends, and seat 0. Its guarded words are 0.
+    pub fn new(alloc: Global, locks: u32, procs: u32) -> Result<(LwTable<G>, LwSeat), NoMemory>
+        requires locks { (0 < locks) × (locks ≤ 200) }
+        requires procs { (0 < procs) × (procs ≤ 64) }
+        ensures table { IfOk result (λ t. (t.0.locks ≡ locks) × (t.0.procs ≡ procs)) }
+        ensures seat { IfOk result (λ t. (t.1.table_id ≡ t.0.table_id) × (t.1.view ≡ fresh (Some 0))) }
+    {
+        let size = Size { locks, procs };
+        let words = opening_words(alloc, size)?;
+        let lists = opening_lists(alloc, locks)?;
+        let Ok((table, seat)) = Table::new(alloc, words.as_slice(), lists, &size) else {
+            return Err(NoMemory);
+        };
+        let Some(number) = ProcNo::new(0) else {
+            unreachable!()
+        };
+        let table = LwTable { table, size };
+        let seat = LwSeat {
+            seat,
+            number,
+            modes: [None; 200],
+        };
+        Ok((table, seat))
+    }
+
+    /// The number of backends that the table has room for.
+    pub fn procs(&self) -> u32
+        ensures { result ≡ self.now.procs }
+    {
+        self.size.procs
+    }
+
+    /// Draws the next number for a new seat; `from` is seat 0. Refused exactly where all numbers
+    /// are drawn.
+    pub fn seat(&self, from: &mut LwSeat) -> Result<LwSeat, NoMoreProcs>
+        requires table { from.old.table_id ≡ self.now.table_id }
+        requires zero { from.old.view.own ≡ Some 0 }
+        ensures table { (from.new.table_id ≡ from.old.table_id) × (from.new.id ≡ from.old.id) }
+        ensures ok { IsOk result ↔ (from.old.view.drawn + 1 < self.now.procs) }
+        ensures seat { IfOk result (λ s. (s.table_id ≡ from.old.table_id) × (s.view ≡ fresh (Some (from.old.view.drawn + 1)))) }
+        ensures drew { OnOk result (from.new.view ≡ stays (drew_one from.old.view)) }
+        ensures refused { IfErr result (λ e. e.drawn ≡ from.old.view.drawn + 1) }
+        ensures as_before { OnErr result (from.new.view ≡ from.old.view) }
+    {
+        let shared = &self.table.shared;
+        let next = shared.load::<Looks>(&mut from.seat, 0);
+        if next >= u64::from(self.size.procs) {
+            return Err(NoMoreProcs { drawn: next });
+        }
+        let Some(number) = ProcNo::new(next as u32) else {
+            unreachable!()
+        };
+        shared.fetch_add::<DrawsOne>(&mut from.seat, 0, 1);
+        let seat = shared.split_seat::<Newcomer>(&mut from.seat);
+        Ok(LwSeat {
+            seat,
+            number,
+            modes: [None; 200],
+        })
+    }
+
+    /// Makes one step on one word. It answers the word before it, and whether an exchange took
+    /// place; an exchange that didn't is a retry.
+    pub fn step(&self, seat: &mut LwSeat, step: LwStep) -> LwSeen
+        requires table { seat.old.table_id ≡ self.now.table_id }
+        requires lock { lock_of step < self.now.locks }
+        requires allowed { Allowed G.lawful step seat.old.view }
+        ensures table { (seat.new.table_id ≡ seat.old.table_id) × (seat.new.id ≡ seat.old.id) }
+        ensures view { seat.new.view ≡ next step seat.old.view result.old }
+        ensures changed { result.changed ≡ exchanges step result.old }
+        ensures told { Tells G.lawful step seat.old.view result.old }
+        ensures holds { length seat.new.view.holds ≡ 200 }
+    {
+        let lock = step.lock().number() as usize;
+        let held = seat.modes[lock];
+        let old = turn::<Brand, G>(&self.table.shared, &mut seat.seat, step, step.op(held));
+        seat.modes[lock] = step.mode_after(held, old);
+        LwSeen {
+            old,
+            changed: step.exchanges(old),
+        }
+    }
+
+    /// Reads one of the four words of a lock that is held.
+    pub fn read_word(&self, seat: &mut LwSeat, lock: LockNo, at: u32) -> u64
+        requires table { seat.old.table_id ≡ self.now.table_id }
+        requires lock { (lock < self.now.locks) × (at < 4) }
+        requires held { (seat.old.view.place ≡ []) × IsSome (mode_in lock seat.old.view) }
+        ensures table { (seat.new.table_id ≡ seat.old.table_id) × (seat.new.id ≡ seat.old.id) }
+        ensures view { seat.new.view ≡ next (GuardLoad lock at) seat.old.view result }
+        ensures same { (n : ℕ) → known_at (hold_in lock seat.old.view) at ≡ Some n → result ≡ n }
+        ensures known { known_at (hold_in lock seat.new.view) at ≡ Some result }
+        ensures lawful { (hold_in lock seat.new.view).wrote ≡ false → (words : List ℕ) → KnowsAll (hold_in lock seat.new.view) words → G.lawful lock words }
+    {
+        self.step(seat, LwStep::GuardLoad(lock, at)).old
+    }
+
+    /// Writes one of the four words of a lock that is held exclusively.
+    pub fn write_word(&self, seat: &mut LwSeat, lock: LockNo, at: u32, value: u64)
+        requires table { seat.old.table_id ≡ self.now.table_id }
+        requires lock { (lock < self.now.locks) × (at < 4) }
+        requires held { (seat.old.view.place ≡ []) × (mode_in lock seat.old.view ≡ Some Exclusive) }
+        ensures table { (seat.new.table_id ≡ seat.old.table_id) × (seat.new.id ≡ seat.old.id) }
+        ensures view { (n : ℕ) × (seat.new.view ≡ next (GuardStore lock at value) seat.old.view n) }
+        ensures wrote { (hold_in lock seat.new.view).wrote ≡ true }
+        ensures known { known_at (hold_in lock seat.new.view) at ≡ Some value }
+    {
+        self.step(seat, LwStep::GuardStore(lock, at, value));
+    }
+
+    /// Takes in another seat, whose number isn't given again.
+    pub fn join(&self, into: &mut LwSeat, from: LwSeat)
+        requires table { (into.old.table_id ≡ self.now.table_id) × (from.table_id ≡ self.now.table_id) }
+        requires idle { from.view.place ≡ [] }
+        requires empty { HoldsNothing from.view }
+        ensures table { (into.new.table_id ≡ into.old.table_id) × (into.new.id ≡ into.old.id) }
+        ensures view { into.new.view ≡ both into.old.view from.view }
+    {
+        let LwSeat {
+            seat,
+            number: _,
+            modes: _,
+        } = from;
+        self.table.shared.join_seat::<TakesIn>(&mut into.seat, seat);
+    }
+
+    /// Ends the table, with the last seat.
+    pub fn close(self, seat: LwSeat) -> LwClosed
+        requires table { seat.table_id ≡ self.table_id }
+        requires idle { seat.view.place ≡ [] }
+        requires empty { HoldsNothing seat.view }
+        ensures { Ends G.lawful self seat result }
+    {
+        let LwTable { table, size } = self;
+        let LwSeat {
+            seat,
+            number: _,
+            modes: _,
+        } = seat;
+        LwClosed {
+            closed: table.close_with(seat),
+            size,
+        }
+    }
+}
