@@ -1,5 +1,5 @@
 -- What each step owes to the table, from what its caller knows.
-use Rattle.std.proofs.Common.{◌≡◌, ℕ, ◌+◌, ◌-◌, ◌%◌, ◌^◌, ◌<◌, ◌≤◌, Bool, cond, List, [], get_or, set, map, Option, None, Some, sym, refl, ap, ◌∙◌, subst, arith}
+use Rattle.std.proofs.Common.{◌≡◌, ℕ, ◌+◌, ◌-◌, ◌%◌, ◌^◌, ◌<◌, ◌≤◌, Bool, cond, eq-eqb, List, [], ◌∷◌, get_or, set, map, Option, None, Some, sym, refl, ap, ◌∙◌, subst, arith}
 use mathlib.Core.Option as maybe
 use lib.ListN.{get_elem?}
 use lib.Seq.{set-get_or}
@@ -11,17 +11,19 @@ use Rattle.proc_table.specs.declared.Mode.TheVariants.{Shared, Exclusive}
 use Rattle.lw_core.specs.declared.step.LwStep.{LwStep}
 use Rattle.lw_core.specs.declared.step.LwStep.TheVariants.{Load, Grant, Refuse, Sub, Peek, GuardLoad, GuardStore}
 use Rattle.lw_core.specs.declared.step.WordOp.{WordOp}
+use Rattle.lw_core.specs.declared.view.Frame.TheVariants.{Trying}
 use Rattle.lw_core.specs.declared.view.View.{View}
 use Rattle.lw_core.specs.declared.view.Size.{Size}
-use Rattle.lw_core.specs.Words.{state_at, word_count, grant_of, grant_held}
-use Rattle.lw_core.specs.Machine.{LwState, mode_in, word_of, lock_of, becomes, next, Allowed, HoldsNothing}
+use Rattle.lw_core.specs.Words.{state_at, guard_at, word_count, grant_of, grant_held}
+use Rattle.lw_core.specs.Machine.{LwState, outer, not_held, held, hold_in, mode_in, learnt, written, moved, gripped, word_of, lock_of, becomes, next, Allowed, HoldsNothing}
 use Rattle.lw_core.specs.Rule.{Rule, numbers_of}
 use Rattle.lw_core.specs.Runs.{drew_one, stays, comes, both, spent}
 use Rattle.lw_core.specs.Ops.{about, gives, op_of, Owes}
 use Rattle.lw_core.specs.Told.{Sat, Tells, does, looks, draws_one}
 use Rattle.lw_core.proofs.Stretches.{at_seen}
 use Rattle.lw_core.proofs.Holders.{grant_below}
-use Rattle.lw_core.proofs.Touches.{on_exchange, word_of_lock}
+use Rattle.lw_core.proofs.Touches.{on_exchange, hold_here, word_of_lock}
+use Rattle.lw_core.proofs.Counts.{inside_holds}
 use Rattle.lw_core.proofs.Guards.{reads_step, writes_step}
 use Rattle.lw_core.proofs.RuleKeeps.{rule_step, rule_draw, rule_split, rule_join}
 
@@ -36,14 +38,21 @@ Bounds (GuardLoad l k) v n = Unit {0}
 Bounds (GuardStore l k x) v n = Unit {0}
 
 module _ (lawful : ℕ → List ℕ → Type 0) (z : Size) where
+  granted : (s : LwState) (r : Rule lawful z s) (id l w n : ℕ) (m : Mode) (v : View) → get_elem? s.views id ≡ maybe.some v → l < z.locks → n ≡ w → hold_in l (next (Grant l m w) v n) ≡ held m
+  granted s r id l w n m v at inside hit = let k : LwStep = Grant l m w in
+      subst (λ (b : Bool). hold_in l (cond b (gripped v k n (outer v.place) (held m) (v.grants + 1)) (moved v k n (Trying l m n ∷ outer v.place))) ≡ held m) (sym (eq-eqb n w hit))
+      (hold_here v k n (outer v.place) (held m) (v.grants + 1) (inside_holds lawful z s r id v at l inside))
+
   tells : (s : LwState) (r : Rule lawful z s) (id : ℕ) (v : View) → get_elem? s.views id ≡ maybe.some v → (k : LwStep) → lock_of k < z.locks → Allowed lawful k v → Tells lawful k v (get_or s.words (word_of k) 0)
   tells s r id v at (Load l b) inside ok = (r.counts l inside).fits
-  tells s r id v at (Grant l m w) inside ok = (r.counts l inside).fits
+  tells s r id v at (Grant l m w) inside ok = ((r.counts l inside).fits, granted s r id l w (get_or s.words (state_at l) 0) m v at inside)
   tells s r id v at (Refuse l m w) inside ok = (r.counts l inside).fits
-  tells s r id v at (Sub l b) inside ok = (r.counts l inside).fits
+  tells s r id v at (Sub l b) inside ok = ((r.counts l inside).fits, hold_here v (Sub l b) (get_or s.words (state_at l) 0) v.place not_held v.grants (inside_holds lawful z s r id v at l inside))
   tells s r id v at (Peek l b) inside ok = (r.counts l inside).fits
-  tells s r id v at (GuardLoad l k) inside ok = reads_step lawful z s r id v at l k inside ok
-  tells s r id v at (GuardStore l k x) inside ok = writes_step lawful z s r id v at l k x inside ok.0
+  tells s r id v at (GuardLoad l k) inside ok = let n : ℕ = get_or s.words (guard_at l k) 0 in
+      (hold_here v (GuardLoad l k) n v.place (learnt (hold_in l v) k n) v.grants (inside_holds lawful z s r id v at l inside), reads_step lawful z s r id v at l k inside ok)
+  tells s r id v at (GuardStore l k x) inside ok = let n : ℕ = get_or s.words (guard_at l k) 0 in
+      (hold_here v (GuardStore l k x) n v.place (written (hold_in l v) k x) v.grants (inside_holds lawful z s r id v at l inside), writes_step lawful z s r id v at l k x inside ok.0)
 
   enough : (s : LwState) (r : Rule lawful z s) (id l : ℕ) (v : View) → get_elem? s.views id ≡ maybe.some v → l < z.locks → (o : Option Mode) → mode_in l v ≡ o → grant_held o ≤ get_or s.words (state_at l) 0
   enough s r id l v at inside None e = omega arith

@@ -56,7 +56,7 @@ module _ (lawful : ℕ → List ℕ → Type 0) (z : Size) (s : LwState) (r : Ru
     read : (l : ℕ) (w : View) → l < z.locks → mode_in l w ≡ mode_in l v → CountsHolders (get_or (set s.words (state_at l) (get_or s.words (state_at l) 0)) (state_at l) 0) (map (mode_in l) (set s.views id w))
     read l w below mode = same l (set s.words (state_at l) (get_or s.words (state_at l) 0)) w below (ap (λ (x : List ℕ). get_or x (state_at l) 0) (set-get_or s.words (state_at l) 0)) mode
 
-    inside_holds : (l : ℕ) → l < z.locks → l < length v.holds
+    pub inside_holds : (l : ℕ) → l < z.locks → l < length v.holds
     inside_holds l below = let long = (places.mine lawful z s r id v at).long in let most = r.sized.locks in omega arith
 
     -- the lock that the step is on

@@ -6,7 +6,7 @@ use Rattle.lw_core.specs.declared.step.LwStep.TheVariants.{Load, Grant, Refuse, 
 use Rattle.lw_core.specs.declared.view.View.{View}
 use Rattle.lw_core.specs.declared.view.Hold.{Hold}
 use Rattle.lw_core.specs.Words.{Waiters}
-use Rattle.lw_core.specs.Machine.{next, hold_in, known_at, learnt, written}
+use Rattle.lw_core.specs.Machine.{next, hold_in, known_at, not_held, held, learnt, written}
 use Rattle.lw_core.specs.Runs.{drew_one}
 
 abbrev pub Sat : Type 0
@@ -21,15 +21,15 @@ abbrev pub Reads : (List ℕ → Type 0) → Hold → ℕ → ℕ → Type 0
 Reads lawful h k n = ((m : ℕ) → known_at h k ≡ Some m → n ≡ m) × (known_at (learnt h k n) k ≡ Some n)
     × (h.wrote ≡ false → (words : List ℕ) → KnowsAll (learnt h k n) words → lawful words)
 
--- what the word n that was found tells
+-- what the word n that was found tells, and what the seat has of the lock then
 abbrev pub Tells : (ℕ → List ℕ → Type 0) → LwStep → View → ℕ → Type 0
 Tells lawful (Load l begins) v n = n < 2 ^ 32
-Tells lawful (Grant l m w) v n = n < 2 ^ 32
+Tells lawful (Grant l m w) v n = (n < 2 ^ 32) × (n ≡ w → hold_in l (next (Grant l m w) v n) ≡ held m)
 Tells lawful (Refuse l m w) v n = n < 2 ^ 32
-Tells lawful (Sub l begins) v n = n < 2 ^ 32
+Tells lawful (Sub l begins) v n = (n < 2 ^ 32) × (hold_in l (next (Sub l begins) v n) ≡ not_held)
 Tells lawful (Peek l begins) v n = n < 2 ^ 32
-Tells lawful (GuardLoad l k) v n = Reads (lawful l) (hold_in l v) k n
-Tells lawful (GuardStore l k x) v n = known_at (written (hold_in l v) k x) k ≡ Some x
+Tells lawful (GuardLoad l k) v n = (hold_in l (next (GuardLoad l k) v n) ≡ learnt (hold_in l v) k n) × Reads (lawful l) (hold_in l v) k n
+Tells lawful (GuardStore l k x) v n = (hold_in l (next (GuardStore l k x) v n) ≡ written (hold_in l v) k x) × (known_at (written (hold_in l v) k x) k ≡ Some x)
 
 -- the view goes on as the machine says
 abbrev pub does : (ℕ → List ℕ → Type 0) → LwStep → Step Waiters → Sat → ℕ → Sat → Type 0

@@ -6,7 +6,7 @@ ghost use Rattle.lw_core.specs.declared.step.LwStep.TheVariants.{GuardLoad, Guar
 ghost use Rattle.lw_core.specs.Told.{KnowsAll, Tells};
 ghost use Rattle.lw_core.specs.Runs.{drew_one, stays, both};
 ghost use Rattle.lw_core.specs.Closing.{Ends};
-ghost use Rattle.lw_core.specs.Machine.{lock_of, HoldsNothing, hold_in, known_at, mode_in, Allowed, next, exchanges, fresh};
+ghost use Rattle.lw_core.specs.Machine.{lock_of, HoldsNothing, hold_in, known_at, learnt, written, mode_in, Allowed, next, exchanges, fresh};
 
 use crate::closed::LwClosed;
 use crate::rule::{DrawsOne, Guarded, Looks, LwRule, Newcomer, TakesIn};
@@ -128,6 +128,7 @@ impl<G: Guarded> LwTable<G> {
         requires held { (seat.old.view.place ≡ []) × IsSome (mode_in lock seat.old.view) }
         ensures table { (seat.new.table_id ≡ seat.old.table_id) × (seat.new.id ≡ seat.old.id) }
         ensures view { seat.new.view ≡ next (GuardLoad lock at) seat.old.view result }
+        ensures hold { hold_in lock seat.new.view ≡ learnt (hold_in lock seat.old.view) at result }
         ensures same { (n : ℕ) → known_at (hold_in lock seat.old.view) at ≡ Some n → result ≡ n }
         ensures known { known_at (hold_in lock seat.new.view) at ≡ Some result }
         ensures lawful { (hold_in lock seat.new.view).wrote ≡ false → (words : List ℕ) → KnowsAll (hold_in lock seat.new.view) words → G.lawful lock words }
@@ -142,7 +143,7 @@ impl<G: Guarded> LwTable<G> {
         requires held { (seat.old.view.place ≡ []) × (mode_in lock seat.old.view ≡ Some Exclusive) }
         ensures table { (seat.new.table_id ≡ seat.old.table_id) × (seat.new.id ≡ seat.old.id) }
         ensures view { (n : ℕ) × (seat.new.view ≡ next (GuardStore lock at value) seat.old.view n) }
-        ensures wrote { (hold_in lock seat.new.view).wrote ≡ true }
+        ensures hold { hold_in lock seat.new.view ≡ written (hold_in lock seat.old.view) at value }
         ensures known { known_at (hold_in lock seat.new.view) at ≡ Some value }
     {
         self.step(seat, LwStep::GuardStore(lock, at, value));
