@@ -9,7 +9,7 @@ use Rattle.lw_core.specs.declared.view.Frame.{Frame}
 use Rattle.lw_core.specs.declared.view.Hold.{Hold}
 use Rattle.lw_core.specs.declared.view.View.{View}
 use Rattle.lw_core.specs.Words.{state_at, guard_at, guarded}
-use Rattle.lw_core.specs.Machine.{Place, top, outer, not_held, held, hold_in, learnt, written, lock_of, word_of, gripped, next, Allowed, fresh}
+use Rattle.lw_core.specs.Machine.{Place, top, outer, not_held, held, hold_in, mode_in, learnt, written, lock_of, word_of, gripped, next, Allowed, fresh}
 use Rattle.lw_core.specs.Rule.{numbers_of}
 
 -- the two cases of an exchange that expects w
@@ -105,3 +105,6 @@ none_held (suc n) (suc l) = none_held n l
 -- a seat that did nothing yet holds nothing
 pub fresh_hold : (own : Option ℕ) (l : ℕ) → hold_in l (fresh own) ≡ not_held
 fresh_hold own l = none_held 200 l
+
+pub fresh_mode : (own : Option ℕ) (l : ℕ) → mode_in l (fresh own) ≡ None
+fresh_mode own l = ap (λ (h : Hold). h.mode) (fresh_hold own l)

@@ -44,6 +44,7 @@ impl<G: Guarded> LwTable<G> {
         requires procs { (0 < procs) × (procs ≤ 64) }
         ensures table { IfOk result (λ t. (t.0.locks ≡ locks) × (t.0.procs ≡ procs)) }
         ensures seat { IfOk result (λ t. (t.1.table_id ≡ t.0.table_id) × (t.1.view ≡ fresh (Some 0))) }
+        ensures empty { IfOk result (λ t. HoldsNothing t.1.view) }
     {
         let size = Size { locks, procs };
         let words = opening_words(alloc, size)?;
@@ -78,6 +79,7 @@ impl<G: Guarded> LwTable<G> {
         ensures table { (from.new.table_id ≡ from.old.table_id) × (from.new.id ≡ from.old.id) }
         ensures ok { IsOk result ↔ (from.old.view.drawn + 1 < self.now.procs) }
         ensures seat { IfOk result (λ s. (s.table_id ≡ from.old.table_id) × (s.view ≡ fresh (Some (from.old.view.drawn + 1)))) }
+        ensures empty { IfOk result (λ s. HoldsNothing s.view) }
         ensures drew { OnOk result (from.new.view ≡ stays (drew_one from.old.view)) }
         ensures refused { IfErr result (λ e. e.drawn ≡ from.old.view.drawn + 1) }
         ensures as_before { OnErr result (from.new.view ≡ from.old.view) }

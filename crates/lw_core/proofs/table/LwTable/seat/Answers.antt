@@ -1,5 +1,8 @@
 use Rattle.std.proofs.Common.{rules, ap, ◌∙◌, arith}
 use Rattle.lw_core.proofs.Asks.{looks_allowed, draws_allowed, splits_allowed}
+use Rattle.lw_core.specs.Machine.{mode_in}
+use Rattle.lw_core.specs.Told.{Sat}
+use Rattle.lw_core.proofs.Touches.{fresh_mode}
 use Rattle.lw_core.proofs.table.LwTable.seat.Goals as goal
 
 pub load-next-requires : goal.load-next-requires
@@ -15,3 +18,6 @@ fetch_add-requires g c = let wide = c.self.invariant.words in let is = c.load-ne
 
 pub split_seat-seat-requires : goal.split_seat-seat-requires
 split_seat-seat-requires g c = let wide = c.self.invariant.words in (search rules, omega arith, splits_allowed g.G.Guarded.lawful _ _ _)
+
+pub returns-clause-empty : goal.returns-clause-empty
+returns-clause-empty g c = λ l. ap (λ (m : Sat). mode_in l m.0) c.split_seat-seat.ensures.4 ∙ fresh_mode c.fetch_add.new.seat.me.0.pending l

@@ -1,0 +1,24 @@
+use Rattle.std.proofs.Common.{List, [], ◌∷◌, ◌++◌, Some, ap, ◌∙◌, append_assoc}
+use Rattle.lw_core.specs.declared.step.Call.TheVariants.{Try}
+use Rattle.lw_core.specs.declared.step.LwStep.TheVariants.{Load, Refuse}
+use Rattle.lw_core.specs.declared.view.Made.{Made}
+use Rattle.lw_core.specs.declared.view.View.{View}
+use Rattle.lw_core.specs.Machine.{made, outer}
+use Rattle.lwlock.specs.Calls.{went}
+use Rattle.lwlock.proofs.conditional_acquire.Goals as goal
+
+pub returns-in-Err-clause-view : goal.returns-in-Err-clause-view
+returns-in-Err-clause-view g c =
+    let refused = c.in-Err.ensures.view in
+    let v : View = c.args.seat.now.view in
+    let first : Made = made (Load c.args.lock (Some (Try c.args.lock c.args.mode))) c.step-word.result.old in
+    let rest : List Made = refused.1.0 ++ made (Refuse c.args.lock c.args.mode c.in-Err.seen) c.in-Err.seen ∷ [] in (
+      refused.0,
+      (
+        first ∷ refused.1.0,
+        refused.1.1 ∙ (ap (λ (u : View). went u (outer u.place) rest) c.step-word.ensures.view ∙ (λ i. record v { place = c.requires.idle i; steps = append_assoc v.steps (first ∷ []) rest i })),
+      ),
+    )
+
+pub returns-in-Err-clause-seen : goal.returns-in-Err-clause-seen
+returns-in-Err-clause-seen g c = let refused = returns-in-Err-clause-view g c in (refused.1.0, ([], ap (λ (u : View). u.steps) refused.1.1))
