@@ -1,5 +1,5 @@
 -- What the rule says to the users of a lock.
-use Rattle.std.proofs.Common.{◌≡◌, ◌≢◌, ℕ, ◌<◌, List, get_or, set, map, Option, None, Some, sym, refl, ap, ◌∙◌, subst, arith, get_or-set_other}
+use Rattle.std.proofs.Common.{◌≡◌, ◌≢◌, ℕ, ◌+◌, ◌<◌, List, get_or, set, map, Option, None, Some, sym, refl, ap, ◌∙◌, subst, arith, get_or-set_other}
 use mathlib.Core.Logic.{dite}
 use mathlib.Core.Option as maybe
 use native.Mathlib.Decide.{ℕ_discrete}
@@ -13,12 +13,14 @@ use Rattle.lw_core.specs.declared.view.Hold.{Hold}
 use Rattle.lw_core.specs.declared.view.View.{View}
 use Rattle.lw_core.specs.declared.view.Size.{Size}
 use Rattle.lw_core.specs.Totals.{total}
+use Rattle.lw_core.specs.Roster.{count, one_if}
 use Rattle.lw_core.specs.Words.{state_at, guard_at, guarded, Conflicts}
-use Rattle.lw_core.specs.Machine.{LwState, mode_in, hold_in, word_of, becomes, lock_of, Allowed}
+use Rattle.lw_core.specs.Machine.{LwState, HoldsNothing, mode_in, hold_in, word_of, becomes, lock_of, Allowed}
 use Rattle.lw_core.specs.CountsHolders.{is_exclusive}
-use Rattle.lw_core.specs.Rule.{Rule}
-use Rattle.lw_core.specs.Promises.{HoldersAgree, UnheldAreLawful, WordsStand}
-use Rattle.lw_core.proofs.Totals.{total_map, total_none}
+use Rattle.lw_core.specs.Rule.{Rule, numbers_of}
+use Rattle.lw_core.specs.Promises.{HoldersAgree, UnheldAreLawful, LastHoldsAlone, WordsStand}
+use Rattle.lw_core.proofs.Totals.{total_map, total_none, total_two}
+use Rattle.lw_core.proofs.Places.{mine}
 use Rattle.lw_core.proofs.Stretches.{at_seen, map_twice}
 use Rattle.lw_core.proofs.Holders.{holders_agree}
 use Rattle.lw_core.proofs.Guarding.{lawful_unheld}
@@ -41,6 +43,16 @@ module _ (lawful : ℕ → List ℕ → Type 0) (z : Size) where
       none None h = refl
       none (Some Shared) h = refl
       none (Some Exclusive) h = absurd (h refl)
+
+  pub last : (s : LwState) → Rule lawful z s → LastHoldsAlone s
+  last s r i j v u apart at there zero_is all = by_number u.own refl
+    where
+      by_number : (o : Option ℕ) → u.own ≡ o → HoldsNothing u
+      by_number None e = (mine lawful z s r j u there).unnumbered e
+      by_number (Some p) e = let two = total_two count (map numbers_of s.views) i j (numbers_of v) (numbers_of u) apart (at_seen numbers_of s.views i v (numbers_of v) at refl) (at_seen numbers_of s.views j u (numbers_of u) there refl) in
+          let counted : total count (map numbers_of s.views) ≡ get_or s.words 0 0 = r.roster.counted in
+          let up : get_or s.words 0 0 ≡ v.drawn + 1 = (r.roster.drawer i (numbers_of v) (at_seen numbers_of s.views i v (numbers_of v) at refl) zero_is).up_to in
+          let one : one_if v.own ≡ 1 = ap one_if zero_is in let other : one_if u.own ≡ 1 = ap one_if e in absurd (omega arith)
 
   pub stand : WordsStand lawful z
   stand s t id holder l k v r e below at held own = subst (λ (x : LwState). guarded x.words l ≡ guarded s.words l) (sym e.is) (by_kind k e.lock e.allowed)

@@ -6,7 +6,7 @@ use mathlib.Core.Option as maybe
 use native.Mathlib.Decide.{ℕ_discrete}
 use lib.ListN.{get_elem?}
 use Rattle.atomic_table.proofs.Lists.{at_set, at_snoc}
-use Rattle.lw_core.specs.Roster.{Numbers, Draws, Roster, one_if, count, times_in, times, stands, once_below, numbered, drew, gave, listed, took}
+use Rattle.lw_core.specs.Roster.{Numbers, IsDrawer, Roster, one_if, count, times_in, times, stands, once_below, numbered, drew, gave, listed, took}
 use Rattle.lw_core.proofs.Totals.{total_set, total_snoc, total_two}
 
 once_most : (x n : ℕ) → once_below x n ≤ 1
@@ -43,7 +43,7 @@ module _ (procs next : ℕ) (seats : List Numbers) (r : Roster procs next seats)
     counted = let sum = total_set count seats id v (drew v) at in let all = r.counted in let a : one_if v.pending ≡ 0 = ap one_if free in omega arith;
     few = omega arith;
     drawer = λ j u e own. ⊎_elim
-        (λ (t : (j ≡ id) × (drew v ≡ u)). subst (λ (x : ℕ × Numbers). Draws (next + 1) x.0 x.1) (λ i. (sym t.0 i, t.1 i)) (record { first = mine.first; up_to = omega arith; kept = inr refl }))
+        (λ (t : (j ≡ id) × (drew v ≡ u)). subst (λ (x : ℕ × Numbers). IsDrawer (next + 1) x.0 x.1) (λ i. (sym t.0 i, t.1 i)) (record { first = mine.first; up_to = omega arith; kept = inr refl }))
         (λ (t : (j ≢ id) × (get_elem? seats j ≡ maybe.some u)). absurd (t.0 (one_seat procs next seats r j id 0 u v t.1 at own zero_is)))
         (at_set seats id j (drew v) u e);
     later = λ j u e. ⊎_elim
@@ -66,7 +66,7 @@ module _ (procs next : ℕ) (seats : List Numbers) (r : Roster procs next seats)
     few = r.few;
     drawer = λ j u e own. ⊎_elim
         (λ (s : get_elem? (set seats id (gave v)) j ≡ maybe.some u). ⊎_elim
-        (λ (t : (j ≡ id) × (gave v ≡ u)). let mine = r.drawer id v at (ap (λ (x : Numbers). x.own) t.1 ∙ own) in subst (λ (x : ℕ × Numbers). Draws next x.0 x.1) (λ i. (sym t.0 i, t.1 i)) (record { first = mine.first; up_to = mine.up_to; kept = inl refl }))
+        (λ (t : (j ≡ id) × (gave v ≡ u)). let mine = r.drawer id v at (ap (λ (x : Numbers). x.own) t.1 ∙ own) in subst (λ (x : ℕ × Numbers). IsDrawer next x.0 x.1) (λ i. (sym t.0 i, t.1 i)) (record { first = mine.first; up_to = mine.up_to; kept = inl refl }))
         (λ (t : (j ≢ id) × (get_elem? seats j ≡ maybe.some u)). r.drawer j u t.1 own)
         (at_set seats id j (gave v) u s))
         (λ (t : numbered v.pending ≡ u). absurd (r.later id v at (ap (λ (x : Numbers). x.own) t ∙ own)))
@@ -91,7 +91,7 @@ module _ (procs next : ℕ) (seats : List Numbers) (r : Roster procs next seats)
     drawer = λ j u e own. ⊎_elim
         (λ (t : (j ≡ other) × (numbered None ≡ u)). let none : None ≡ Some 0 = ap (λ (x : Numbers). x.own) t.1 ∙ own in absurd (cc))
         (λ (s : (j ≢ other) × (get_elem? (set seats id (took v w)) j ≡ maybe.some u)). ⊎_elim
-        (λ (t : (j ≡ id) × (took v w ≡ u)). let mine = r.drawer id v at (ap (λ (x : Numbers). x.own) t.1 ∙ own) in subst (λ (x : ℕ × Numbers). Draws next x.0 x.1) (λ i. (sym t.0 i, t.1 i)) (record { first = mine.first; up_to = mine.up_to; kept = mine.kept }))
+        (λ (t : (j ≡ id) × (took v w ≡ u)). let mine = r.drawer id v at (ap (λ (x : Numbers). x.own) t.1 ∙ own) in subst (λ (x : ℕ × Numbers). IsDrawer next x.0 x.1) (λ i. (sym t.0 i, t.1 i)) (record { first = mine.first; up_to = mine.up_to; kept = mine.kept }))
         (λ (t : (j ≢ id) × (get_elem? seats j ≡ maybe.some u)). r.drawer j u t.1 own)
         (at_set seats id j (took v w) u s.1))
         (at_set (set seats id (took v w)) other j (numbered None) u e);
@@ -114,8 +114,8 @@ roster_first procs some = record {
   later = λ id v e. none id v e;
 }
   where
-    one : (id : ℕ) (v : Numbers) → get_elem? (numbered (Some 0) ∷ []) id ≡ maybe.some v → Draws 1 id v
-    one zero v e = subst (Draws 1 0) (maybe.some-injective _ _ e) record { first = refl; up_to = refl; kept = inl refl }
+    one : (id : ℕ) (v : Numbers) → get_elem? (numbered (Some 0) ∷ []) id ≡ maybe.some v → IsDrawer 1 id v
+    one zero v e = subst (IsDrawer 1 0) (maybe.some-injective _ _ e) record { first = refl; up_to = refl; kept = inl refl }
     one (suc id) v e = absurd (maybe.some-ne-none v (sym e))
 
     none : (id : ℕ) (v : Numbers) → get_elem? (numbered (Some 0) ∷ []) id ≡ maybe.some v → v.pending ≡ Some 0 → ⊥

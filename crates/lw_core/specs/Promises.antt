@@ -9,7 +9,7 @@ use Rattle.lw_core.specs.declared.step.LwStep.{LwStep}
 use Rattle.lw_core.specs.declared.view.View.{View}
 use Rattle.lw_core.specs.declared.view.Size.{Size}
 use Rattle.lw_core.specs.Words.{Waiters, word_count, guarded, Conflicts, Opens}
-use Rattle.lw_core.specs.Machine.{LwState, mode_in, fresh}
+use Rattle.lw_core.specs.Machine.{LwState, HoldsNothing, mode_in, fresh}
 use Rattle.lw_core.specs.Rule.{Rule}
 use Rattle.lw_core.specs.Runs.{Steps, Draws, Splits, Joins}
 
@@ -38,6 +38,10 @@ HoldersAgree z s = (l i j : ℕ) (v u : View) (m n : Mode) → l < z.locks → (
 -- the four words of a lock that nobody holds exclusively are lawful
 abbrev pub UnheldAreLawful : (ℕ → List ℕ → Type 0) → Size → LwState → Type 0
 UnheldAreLawful lawful z s = (l : ℕ) → l < z.locks → ((i : ℕ) (v : View) → get_elem? s.views i ≡ maybe.some v → mode_in l v ≡ Some Exclusive → ⊥) → lawful l (guarded s.words l)
+
+-- seat 0, once it has taken over every number that it drew, is the only seat that holds a lock
+abbrev pub LastHoldsAlone : LwState → Type 0
+LastHoldsAlone s = (i j : ℕ) (v u : View) → (j ≡ i → ⊥) → get_elem? s.views i ≡ maybe.some v → get_elem? s.views j ≡ maybe.some u → v.own ≡ Some 0 → length v.taken ≡ v.drawn → HoldsNothing u
 
 -- while a seat holds a lock, no step of another changes its words; and none at all where it is held Shared
 abbrev pub WordsStand : (ℕ → List ℕ → Type 0) → Size → Type 0

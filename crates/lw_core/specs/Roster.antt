@@ -35,7 +35,7 @@ abbrev pub once_below : ℕ → ℕ → ℕ
 once_below x next = cond (nat_lt x next) 1 0
 
 -- the seat with the number 0 comes first, and the next number is one more than it has drawn
-pub record Draws (next id : ℕ) (v : Numbers) : Type 0 where
+pub record IsDrawer (next id : ℕ) (v : Numbers) : Type 0 where
   pub first : id ≡ 0
   pub up_to : next ≡ v.drawn + 1
   pub kept : (v.pending ≡ None) ⊎ (v.pending ≡ Some v.drawn)
@@ -45,7 +45,7 @@ pub record Roster (procs next : ℕ) (seats : List Numbers) : Type 0 where
   pub once : (x : ℕ) → total (stands x) seats ≡ once_below x next
   pub counted : total count seats ≡ next
   pub few : next ≤ procs
-  pub drawer : (id : ℕ) (v : Numbers) → get_elem? seats id ≡ maybe.some v → v.own ≡ Some 0 → Draws next id v
+  pub drawer : (id : ℕ) (v : Numbers) → get_elem? seats id ≡ maybe.some v → v.own ≡ Some 0 → IsDrawer next id v
   pub later : (id : ℕ) (v : Numbers) → get_elem? seats id ≡ maybe.some v → v.pending ≡ Some 0 → ⊥
 
 -- a seat with this number and no other

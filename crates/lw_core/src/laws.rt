@@ -7,7 +7,7 @@ ghost use Rattle.lw_core.specs.declared.step.LwStep.TheVariants.{Load, Grant, Re
 ghost use Rattle.lw_core.specs.Machine.{LwState};
 ghost use Rattle.lw_core.specs.Rule.{Rule, NumbersStand, PlacesFit, EachCountsHolders, EachGuardedIsLawful};
 ghost use Rattle.lw_core.specs.Runs.{Event, Run};
-ghost use Rattle.lw_core.specs.Promises.{KeptBy, KeptByDraw, KeptBySplit, KeptByJoin, IsOpening, HoldersAgree, UnheldAreLawful, WordsStand};
+ghost use Rattle.lw_core.specs.Promises.{KeptBy, KeptByDraw, KeptBySplit, KeptByJoin, IsOpening, HoldersAgree, UnheldAreLawful, LastHoldsAlone, WordsStand};
 
 use crate::rule::Guarded;
 use crate::view::Size;
@@ -71,11 +71,12 @@ pub fn each_run_keeps_the_rule<G: Guarded>(size: Size)
     ensures run { (es : List Event) (s t : LwState) → Rule G.lawful size s → Run G.lawful size s es t → Rule G.lawful size t }
 {}
 
-/// What the rule says to users: no two backends hold one lock in conflicting modes, and the words
-/// of a lock that nobody holds exclusively are lawful.
+/// What the rule says to users: no two backends hold one lock in conflicting modes, the words of a
+/// lock that nobody holds exclusively are lawful, and the last seat that is left holds alone.
 pub fn the_rule_excludes<G: Guarded>(size: Size)
     ensures exclusion { (s : LwState) → Rule G.lawful size s → HoldersAgree size s }
     ensures lawful { (s : LwState) → Rule G.lawful size s → UnheldAreLawful G.lawful size s }
+    ensures last { (s : LwState) → Rule G.lawful size s → LastHoldsAlone s }
 {}
 
 /// While a seat holds a lock its words change by that seat alone, and by nobody where it is held
