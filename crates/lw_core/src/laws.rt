@@ -36,13 +36,19 @@ pub fn places_fit<G: Guarded>(size: Size)
 
 /// Each lock's word counts its holders, after each kind of step and each move.
 pub fn counts_holders<G: Guarded>(size: Size)
-    ensures load { (l : ℕ) (begins : Option Call) → KeptBy G.lawful size (EachCountsHolders size) (Load l begins) }
-    ensures grant { (l : ℕ) (m : Mode) (w : ℕ) → KeptBy G.lawful size (EachCountsHolders size) (Grant l m w) }
-    ensures refuse { (l : ℕ) (m : Mode) (w : ℕ) → KeptBy G.lawful size (EachCountsHolders size) (Refuse l m w) }
-    ensures sub { (l : ℕ) (begins : Option Call) → KeptBy G.lawful size (EachCountsHolders size) (Sub l begins) }
-    ensures peek { (l : ℕ) (begins : Option Call) → KeptBy G.lawful size (EachCountsHolders size) (Peek l begins) }
+    ensures load { (l : ℕ) (begins : Option Call)
+        → KeptBy G.lawful size (EachCountsHolders size) (Load l begins) }
+    ensures grant { (l : ℕ) (m : Mode) (w : ℕ)
+        → KeptBy G.lawful size (EachCountsHolders size) (Grant l m w) }
+    ensures refuse { (l : ℕ) (m : Mode) (w : ℕ)
+        → KeptBy G.lawful size (EachCountsHolders size) (Refuse l m w) }
+    ensures sub { (l : ℕ) (begins : Option Call)
+        → KeptBy G.lawful size (EachCountsHolders size) (Sub l begins) }
+    ensures peek { (l : ℕ) (begins : Option Call)
+        → KeptBy G.lawful size (EachCountsHolders size) (Peek l begins) }
     ensures guard_load { (l k : ℕ) → KeptBy G.lawful size (EachCountsHolders size) (GuardLoad l k) }
-    ensures guard_store { (l k x : ℕ) → KeptBy G.lawful size (EachCountsHolders size) (GuardStore l k x) }
+    ensures guard_store { (l k x : ℕ)
+        → KeptBy G.lawful size (EachCountsHolders size) (GuardStore l k x) }
     ensures draw { KeptByDraw G.lawful size (EachCountsHolders size) }
     ensures split { KeptBySplit G.lawful size (EachCountsHolders size) }
     ensures join { KeptByJoin G.lawful size (EachCountsHolders size) }
@@ -51,13 +57,20 @@ pub fn counts_holders<G: Guarded>(size: Size)
 /// The words of each lock are lawful unless its holder wrote one, and known words are the
 /// table's, after each kind of step and each move.
 pub fn guarded_is_lawful<G: Guarded>(size: Size)
-    ensures load { (l : ℕ) (begins : Option Call) → KeptBy G.lawful size (EachGuardedIsLawful G.lawful size) (Load l begins) }
-    ensures grant { (l : ℕ) (m : Mode) (w : ℕ) → KeptBy G.lawful size (EachGuardedIsLawful G.lawful size) (Grant l m w) }
-    ensures refuse { (l : ℕ) (m : Mode) (w : ℕ) → KeptBy G.lawful size (EachGuardedIsLawful G.lawful size) (Refuse l m w) }
-    ensures sub { (l : ℕ) (begins : Option Call) → KeptBy G.lawful size (EachGuardedIsLawful G.lawful size) (Sub l begins) }
-    ensures peek { (l : ℕ) (begins : Option Call) → KeptBy G.lawful size (EachGuardedIsLawful G.lawful size) (Peek l begins) }
-    ensures guard_load { (l k : ℕ) → KeptBy G.lawful size (EachGuardedIsLawful G.lawful size) (GuardLoad l k) }
-    ensures guard_store { (l k x : ℕ) → KeptBy G.lawful size (EachGuardedIsLawful G.lawful size) (GuardStore l k x) }
+    ensures load { (l : ℕ) (begins : Option Call)
+        → KeptBy G.lawful size (EachGuardedIsLawful G.lawful size) (Load l begins) }
+    ensures grant { (l : ℕ) (m : Mode) (w : ℕ)
+        → KeptBy G.lawful size (EachGuardedIsLawful G.lawful size) (Grant l m w) }
+    ensures refuse { (l : ℕ) (m : Mode) (w : ℕ)
+        → KeptBy G.lawful size (EachGuardedIsLawful G.lawful size) (Refuse l m w) }
+    ensures sub { (l : ℕ) (begins : Option Call)
+        → KeptBy G.lawful size (EachGuardedIsLawful G.lawful size) (Sub l begins) }
+    ensures peek { (l : ℕ) (begins : Option Call)
+        → KeptBy G.lawful size (EachGuardedIsLawful G.lawful size) (Peek l begins) }
+    ensures guard_load { (l k : ℕ)
+        → KeptBy G.lawful size (EachGuardedIsLawful G.lawful size) (GuardLoad l k) }
+    ensures guard_store { (l k x : ℕ)
+        → KeptBy G.lawful size (EachGuardedIsLawful G.lawful size) (GuardStore l k x) }
     ensures draw { KeptByDraw G.lawful size (EachGuardedIsLawful G.lawful size) }
     ensures split { KeptBySplit G.lawful size (EachGuardedIsLawful G.lawful size) }
     ensures join { KeptByJoin G.lawful size (EachGuardedIsLawful G.lawful size) }
@@ -68,7 +81,8 @@ pub fn each_run_keeps_the_rule<G: Guarded>(size: Size)
     requires locks { size.locks ≤ 200 }
     requires procs { (0 < size.procs) × (size.procs ≤ 64) }
     ensures opening { (s : LwState) → IsOpening size s → Rule G.lawful size s }
-    ensures run { (es : List Event) (s t : LwState) → Rule G.lawful size s → Run G.lawful size s es t → Rule G.lawful size t }
+    ensures run { (es : List Event) (s t : LwState) → Rule G.lawful size s
+        → Run G.lawful size s es t → Rule G.lawful size t }
 {}
 
 /// What the rule says to users: no two backends hold one lock in conflicting modes, the words of a

@@ -43,7 +43,8 @@ impl<G: Guarded> LwTable<G> {
         requires locks { (0 < locks) × (locks ≤ 200) }
         requires procs { (0 < procs) × (procs ≤ 64) }
         ensures table { IfOk result (λ t. (t.0.locks ≡ locks) × (t.0.procs ≡ procs)) }
-        ensures seat { IfOk result (λ t. (t.1.table_id ≡ t.0.table_id) × (t.1.view ≡ fresh (Some 0))) }
+        ensures seat { IfOk result (λ t. (t.1.table_id ≡ t.0.table_id)
+            × (t.1.view ≡ fresh (Some 0))) }
         ensures empty { IfOk result (λ t. HoldsNothing t.1.view) }
     {
         let size = Size { locks, procs };
@@ -78,7 +79,8 @@ impl<G: Guarded> LwTable<G> {
         requires zero { from.old.view.own ≡ Some 0 }
         ensures table { (from.new.table_id ≡ from.old.table_id) × (from.new.id ≡ from.old.id) }
         ensures ok { IsOk result ↔ (from.old.view.drawn + 1 < self.now.procs) }
-        ensures seat { IfOk result (λ s. (s.table_id ≡ from.old.table_id) × (s.view ≡ fresh (Some (from.old.view.drawn + 1)))) }
+        ensures seat { IfOk result (λ s. (s.table_id ≡ from.old.table_id)
+            × (s.view ≡ fresh (Some (from.old.view.drawn + 1)))) }
         ensures empty { IfOk result (λ s. HoldsNothing s.view) }
         ensures drew { OnOk result (from.new.view ≡ stays (drew_one from.old.view)) }
         ensures refused { IfErr result (λ e. e.drawn ≡ from.old.view.drawn + 1) }
@@ -133,7 +135,8 @@ impl<G: Guarded> LwTable<G> {
         ensures hold { hold_in lock seat.new.view ≡ learnt (hold_in lock seat.old.view) at result }
         ensures same { (n : ℕ) → known_at (hold_in lock seat.old.view) at ≡ Some n → result ≡ n }
         ensures known { known_at (hold_in lock seat.new.view) at ≡ Some result }
-        ensures lawful { (hold_in lock seat.new.view).wrote ≡ false → (words : List ℕ) → KnowsAll (hold_in lock seat.new.view) words → G.lawful lock words }
+        ensures lawful { (hold_in lock seat.new.view).wrote ≡ false → (words : List ℕ)
+            → KnowsAll (hold_in lock seat.new.view) words → G.lawful lock words }
     {
         self.step(seat, LwStep::GuardLoad(lock, at)).old
     }
@@ -153,7 +156,8 @@ impl<G: Guarded> LwTable<G> {
 
     /// Takes in another seat, whose number isn't given again.
     pub fn join(&self, into: &mut LwSeat, from: LwSeat)
-        requires table { (into.old.table_id ≡ self.now.table_id) × (from.table_id ≡ self.now.table_id) }
+        requires table { (into.old.table_id ≡ self.now.table_id)
+            × (from.table_id ≡ self.now.table_id) }
         requires idle { from.view.place ≡ [] }
         requires empty { HoldsNothing from.view }
         ensures table { (into.new.table_id ≡ into.old.table_id) × (into.new.id ≡ into.old.id) }

@@ -16,7 +16,8 @@ pub(crate) fn turn<K: Doing, G: Guarded>(
     step: LwStep,
     op: WordOp,
 ) -> u64
-    requires table { (seat.old.table_id ≡ shared.now.table_id) × (word_of step < shared.now.table_id.words) }
+    requires table { (seat.old.table_id ≡ shared.now.table_id)
+        × (word_of step < shared.now.table_id.words) }
     requires owes { Owes G.lawful shared.now.key shared.now.table_id.slots seat.old.id seat.old.me (word_of step) (gives op) K.step }
     ensures table { (seat.new.table_id ≡ seat.old.table_id) × (seat.new.id ≡ seat.old.id) }
     ensures told { does G.lawful K.step about seat.old.me result seat.new.me }

@@ -45,7 +45,9 @@ fn attempt<G: Guarded, R: Wait>(
     requires place { top seat.old.view.place ≡ Some (Trying lock mode word) }
     requires word { word < 2 ^ 32 }
     ensures table { (seat.new.table_id ≡ seat.old.table_id) × (seat.new.id ≡ seat.old.id) }
-    ensures view { MatchResult result (λ _. Granted lock mode (outer seat.old.view.place) seat.old.view seat.new.view) (λ e. Refused lock mode e (outer seat.old.view.place) seat.old.view seat.new.view) }
+    ensures view { MatchResult result
+        (λ _. Granted lock mode (outer seat.old.view.place) seat.old.view seat.new.view)
+        (λ e. Refused lock mode e (outer seat.old.view.place) seat.old.view seat.new.view) }
     ensures held { OnOk result (hold_in lock seat.new.view ≡ held mode) }
     ensures word { IfErr result (λ e. e < 2 ^ 32) }
 {
@@ -81,7 +83,9 @@ pub fn conditional_acquire<G: Guarded, R: Wait>(
     requires free { mode_in lock seat.old.view ≡ None }
     ensures table { (seat.new.table_id ≡ seat.old.table_id) × (seat.new.id ≡ seat.old.id) }
     ensures idle { seat.new.view.place ≡ [] }
-    ensures view { MatchResult result (λ _. Granted lock mode [] seat.old.view seat.new.view) (λ e. Refused lock mode e.seen [] seat.old.view seat.new.view) }
+    ensures view { MatchResult result
+        (λ _. Granted lock mode [] seat.old.view seat.new.view)
+        (λ e. Refused lock mode e.seen [] seat.old.view seat.new.view) }
     ensures held { OnOk result (hold_in lock seat.new.view ≡ held mode) }
     ensures others { (k : ℕ) → k ≢ lock → hold_in k seat.new.view ≡ hold_in k seat.old.view }
     ensures refused { IfErr result (λ e. Blocks e.seen mode × (mode_in lock seat.new.view ≡ None)) }

@@ -196,19 +196,23 @@ fn count_by_two<R: Threads + Wait + Sync>(
     other: LwSeat,
     lock: LockNo,
 ) -> (LwSeat, LwSeat, u64)
-    requires table { (first.table_id ≡ table.now.table_id) × (other.table_id ≡ table.now.table_id) × (lock < table.now.locks) }
+    requires table { (first.table_id ≡ table.now.table_id) × (other.table_id ≡ table.now.table_id)
+        × (lock < table.now.locks) }
     requires first { (first.view.place ≡ []) × (mode_in lock first.view ≡ None) }
     requires other { (other.view.place ≡ []) × (mode_in lock other.view ≡ None) }
-    ensures { (result.0.table_id ≡ first.table_id) × (result.0.view.place ≡ []) × (result.1.table_id ≡ other.table_id) × (result.1.view.place ≡ []) }
+    ensures { (result.0.table_id ≡ first.table_id) × (result.0.view.place ≡ [])
+        × (result.1.table_id ≡ other.table_id) × (result.1.view.place ≡ []) }
 {
     let (one, two) = join(
         rt,
         move ||
-            requires { (first.table_id ≡ table.now.table_id) × (lock < table.now.locks) × (first.view.place ≡ []) × (mode_in lock first.view ≡ None) }
+            requires { (first.table_id ≡ table.now.table_id) × (lock < table.now.locks)
+                × (first.view.place ≡ []) × (mode_in lock first.view ≡ None) }
             ensures { (result.0.table_id ≡ first.table_id) × (result.0.view.place ≡ []) }
         { count(rt, table, first, lock) },
         move ||
-            requires { (other.table_id ≡ table.now.table_id) × (lock < table.now.locks) × (other.view.place ≡ []) × (mode_in lock other.view ≡ None) }
+            requires { (other.table_id ≡ table.now.table_id) × (lock < table.now.locks)
+                × (other.view.place ≡ []) × (mode_in lock other.view ≡ None) }
             ensures { (result.0.table_id ≡ other.table_id) × (result.0.view.place ≡ []) }
         { count(rt, table, other, lock) },
     );
