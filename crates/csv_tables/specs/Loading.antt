@@ -2,6 +2,8 @@
 use Rattle.std.specs.Prelude.{◌≡◌, ◌<◌, ◌≤◌, ℕ, List, length, Option, Some, None, Result, Ok, Err, IfSome}
 use Rattle.row_model.specs.Table.{Table}
 use Rattle.row_model.specs.Form.{form_fault, table_of}
+use Rattle.row_model.specs.declared.RecordFault.{RecordFault}
+use Rattle.row_model.specs.declared.RecordFault.TheVariants as cause
 use Rattle.csv_tables.specs.declared.LoadFault.{LoadFault}
 use Rattle.csv_tables.specs.declared.LoadFault.TheVariants as load
 use Rattle.csv_tables.specs.Faults.{Rose}
@@ -19,6 +21,12 @@ ReadsAll view told (Err (load.Bad f)) = ⊥
 ReadsAll view told (Err load.Open) = Unit {0}
 ReadsAll view told (Err load.Read) = Unit {0}
 ReadsAll view told (Err load.NoMemory) = Unit {0}
+
+-- what making a table of a text answers
+abbrev pub LoadsText : List ℕ → List ℕ → Result Table RecordFault → Type 0
+LoadsText bytes key (Ok table) = (form_fault (records_of bytes) key ≡ None) × (table ≡ table_of (records_of bytes) key)
+LoadsText bytes key (Err (cause.Bad f)) = form_fault (records_of bytes) key ≡ Some f
+LoadsText bytes key (Err cause.NoMemory) = Unit {0}
 
 -- what a load of a table answers, where the bytes are told
 abbrev pub Loads : Option (List ℕ) → List ℕ → Result Table LoadFault → Type 0

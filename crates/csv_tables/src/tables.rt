@@ -7,7 +7,7 @@ ghost use Rattle.row_model.specs.Form.{fault_so_far, form_fault, table_of};
 ghost use Rattle.row_model.specs.declared.RowFault.{RowFault};
 ghost use Rattle.csv_tables.specs.Faults.{KeepsSide};
 ghost use Rattle.csv_tables.specs.Sides.{other};
-ghost use Rattle.csv_tables.specs.Loading.{ReadsAll, Loads, LoadCause};
+ghost use Rattle.csv_tables.specs.Loading.{ReadsAll, Loads, LoadsText, LoadCause};
 ghost use Rattle.csv_tables.specs.Records.{records_of};
 
 use crate::LoadFault;
@@ -98,8 +98,7 @@ fn unread(fault: csv::Error) -> RecordFault
 
 // The table of a text.
 fn load_text(alloc: Global, text: &[u8], key: &str) -> Result<Rows, RecordFault>
-    ensures table { IfOk result (λ t. (form_fault (records_of text.now) key.now ≡ None) × (t ≡ table_of (records_of text.now) key.now)) }
-    ensures bad { (f : RowFault) → result ≡ Err (RecordFault.Bad f) → form_fault (records_of text.now) key.now ≡ Some f }
+    ensures { LoadsText text.now key.now result }
 {
     let mut builder = RowsBuilder::new(alloc, key.as_bytes())?;
     let mut reader = ReaderBuilder::new()

@@ -1,5 +1,6 @@
 use Rattle.std.proofs.Common.{Bor, List, ℕ, ◌∙◌, sym, refl, inl, inr, rules, Some, ◌∷◌, ◌++◌, [], arith}
 use Rattle.std.proofs.lemmas.List.{length-append}
+use Rattle.std.proofs.lemmas.Result.{err_from_is_err_and}
 use Rattle.csv.specs.Reading.{Reached, default_config, strip_bom}
 use Rattle.csv.specs.Records.{fields_of}
 use Rattle.csv.specs.declared.parser.State.TheVariants as st
@@ -7,7 +8,7 @@ use Rattle.csv.proofs.ReadFacts.{rows-end, rows-more}
 use Rattle.row_model.specs.Form.{fault_so_far}
 use Rattle.row_model.proofs.FormFacts.{form-front}
 use Rattle.csv_tables.specs.Records.{records_of}
-use Rattle.csv_tables.proofs.LoadFacts.{finishes-table, finishes-bad}
+use Rattle.csv_tables.proofs.LoadFacts.{finishes-text, refused-text}
 use Rattle.csv_tables.proofs.RecordFacts.{reached-records, reached-some, records-few, all-records}
 use Rattle.csv_tables.proofs.tables.load_text.Goals as goal
 
@@ -63,28 +64,22 @@ unreachable-requires c =
     let inv = c.records.invariant in
     omega (arith, inv.count, records-few c.args.text.now c.records.builder.records c.records.reader.state inv.reached.0 inv.reached.2)
 
-pub returns-in-Ok-false-clause-table : goal.returns-in-Ok-false-clause-table
-returns-in-Ok-false-clause-table c =
+pub returns-in-Ok-false : goal.returns-in-Ok-false
+returns-in-Ok-false c =
     let inv = c.records.invariant in
     let read = rw c.in-Ok-false.field-0-test at (c.in-Ok-false.ensures.reads inv.trims inv.ready) in
     let end = rows-end (λ (s : Bor (List ℕ)). Some s.now) c.records.reader c.read_byte_record.new.self _ default_config inv.reached.0 inv.config inv.reached.1 read in
     let all = all-records c.args.text.now c.records.builder.records (c.records.reader.state, inv.reached.0, inv.reached.2, end) in
-    finishes-table c.records.builder c.args.key.now (records_of c.args.text.now) c.finish.result inv.clean inv.key (sym all) c.finish.ensures
+    finishes-text c.records.builder c.args.key.now c.args.text.now c.finish.result inv.clean inv.key all c.finish.ensures
 
-pub returns-in-Ok-false-clause-bad : goal.returns-in-Ok-false-clause-bad
-returns-in-Ok-false-clause-bad c =
-    let inv = c.records.invariant in
-    let read = rw c.in-Ok-false.field-0-test at (c.in-Ok-false.ensures.reads inv.trims inv.ready) in
-    let end = rows-end (λ (s : Bor (List ℕ)). Some s.now) c.records.reader c.read_byte_record.new.self _ default_config inv.reached.0 inv.config inv.reached.1 read in
-    let all = all-records c.args.text.now c.records.builder.records (c.records.reader.state, inv.reached.0, inv.reached.2, end) in
-    finishes-bad c.records.builder c.args.key.now (records_of c.args.text.now) c.finish.result inv.clean inv.key (sym all) c.finish.ensures
-
-pub returns-in_err-add_record-in-Ok-true-clause-bad : goal.returns-in_err-add_record-in-Ok-true-clause-bad
-returns-in_err-add_record-in-Ok-true-clause-bad c f is =
+pub returns-in_err-add_record-in-Ok-true : goal.returns-in_err-add_record-in-Ok-true
+returns-in_err-add_record-in-Ok-true c =
     let inv = c.records.invariant in
     let read = rw c.in-Ok-true.field-0-test at (c.in-Ok-true.ensures.reads inv.trims inv.ready) in
     let row = fields_of c.read_byte_record.new.row in
     let m = rows-more (λ (s : Bor (List ℕ)). Some s.now) c.records.reader c.read_byte_record.new.self row default_config st.StartRecord (strip_bom c.args.text.now) inv.reached.0 c.records.builder.records inv.config inv.reached.1 inv.reached.2 read in
     let front = reached-records c.args.text.now (c.records.builder.records ++ row ∷ []) c.read_byte_record.new.self.state m.0 m.2 in
+    let given = err_from_is_err_and c.from_residual-in_err-add_record-in-Ok-true.result c.from_residual-in_err-add_record-in-Ok-true.ensures.1 in
+    rw given.1 (refused-text c.args.key.now c.args.text.now given.0 (λ f is.
     let bad = c.in_err-add_record-in-Ok-true.ensures.bad f (search rules) in
-    rw front.1 (form-front c.args.key.now (c.records.builder.records ++ row ∷ []) front.0 f (rw inv.key at bad))
+    rw front.1 (form-front c.args.key.now (c.records.builder.records ++ row ∷ []) front.0 f (rw inv.key at bad))))
