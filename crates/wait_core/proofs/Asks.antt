@@ -1,0 +1,94 @@
+-- What each call on the table owes to it, from what the call's caller knows.
+use Rattle.std.proofs.Common.{◌≡◌, ℕ, ◌+◌, ◌^◌, ◌<◌, List, [], ◌∷◌, ◌++◌, get_or, set, Option, None, Some, refl, sym, ◌∙◌, subst, arith}
+use Rattle.atomic_table.specs.Seated.{TableId}
+use Rattle.atomic_table.specs.Table.{Me, Step, keeps, stepped}
+use Rattle.atomic_table.proofs.Lists.{at_map, set_else}
+use Rattle.wait_core.specs.declared.party.ClientOp.{ClientOp}
+use Rattle.wait_core.specs.declared.step.WaitStep.{WaitStep}
+use Rattle.wait_core.specs.declared.view.Kept.{Kept}
+use Rattle.wait_core.specs.declared.view.PartyView.{PartyView}
+use Rattle.wait_core.specs.declared.view.Size.{Size}
+use Rattle.wait_core.specs.declared.view.WaitView.{WaitView}
+use Rattle.wait_core.specs.Ops.{op_at, op_gives}
+use Rattle.wait_core.specs.Words.{client_base}
+use Rattle.wait_core.specs.Machine.{word_of, becomes, next, Permits, Allowed}
+use Rattle.wait_core.specs.Parties.{with_client, newcomer, joined, left_over, IsStep, IsDraw, IsJoin}
+use Rattle.wait_core.specs.Seating.{numbers_of, party_of, client_moved, with_drawn, stays, comes, took_in, spent_view}
+use Rattle.wait_core.specs.Rule.{Rule}
+use Rattle.wait_core.specs.Told.{does, does_client, looks, draws, Turns, Cuts, Glues}
+use Rattle.wait_core.specs.Seats.{TableView, table_view}
+use Rattle.wait_core.proofs.RuleKept.{step_kept, word_inside, own_below}
+use Rattle.wait_core.proofs.SeatsKept.{client_kept, draw_kept, seat_kept, join_kept}
+
+-- what holds of a table's value is so of its fields, and of an operation that equals another
+pub turned : {C X : Type 0} (law : X → List ℕ → List (PartyView C) → List ℕ → Type 0) (words_of : X → ℕ) (tid : TableId) (party : X) (z : Size) (phase count : ℕ) (t : TableView X) → table_view tid party z phase ≡ t → count ≡ words_of party
+    → (id : ℕ) (me : Me Kept (WaitView C)) (word : ℕ) (o p : ClientOp) → o ≡ p → (gives : ℕ → Me Kept (WaitView C) → Type 0)
+    → Turns (law t.party) t.size t.phase (words_of t.party) t.table_id.slots id me word (op_gives o) gives → Turns (law party) z phase count tid.slots id me word (op_gives p) gives
+turned law words_of tid party z phase count t is counted id me word o p same gives h =
+    subst (λ (x : ClientOp). Turns (law party) z phase count tid.slots id me word (op_gives x) gives) same
+    (subst (λ (n : ℕ). Turns (law party) z phase n tid.slots id me word (op_gives o) gives) (sym counted)
+    (subst (λ (x : TableView _). Turns (law x.party) x.size x.phase (words_of x.party) x.table_id.slots id me word (op_gives o) gives) (sym is) h))
+
+module _ {C : Type 0} (holds : List ℕ → List (PartyView C) → List ℕ → Type 0) (z : Size) (phase count : ℕ) where
+  -- a step of the machine, where the table's operation does what the machine says
+  pub step_turns : (slots id : ℕ) (me : Me Kept (WaitView C)) (word o : ℕ) (k : WaitStep) (op : ClientOp) → word ≡ word_of z o k → ((n : ℕ) → op_gives op n ≡ becomes k n) → me.0.own ≡ Some o → Allowed z k me.0
+      → Turns holds z phase count slots id me word (op_gives op) (does z k me)
+  step_turns slots id me word o k op at agrees own ok = subst (λ (i : ℕ). Turns holds z phase count slots id me i (op_gives op) (does z k me)) (sym at)
+      (λ s r _ there _. let n : ℕ = get_or s.words (word_of z o k) 0 in let mine = subst (λ (x : Option ℕ). Permits z k x me.0.place) own ok in
+      let inside = word_inside z o k me.0.place (own_below holds z phase count s r id me.0 o there own) mine in (
+        next z k me.0 n,
+        keeps,
+        tt,
+        subst (λ (x : ℕ). Rule holds z phase count (stepped s (word_of z o k) x id [] (next z k me.0 n) keeps)) (sym (agrees n)) (step_kept holds z phase count s r id me.0 o there own k mine),
+        (refl, refl, r.flags (word_of z o k) inside.0 inside.1),
+      ))
+
+  -- a step of the client
+  pub client_turns : (slots id : ℕ) (me : Me Kept (WaitView C)) (word : ℕ) (op : ClientOp) (then : ℕ → C) → word ≡ client_base z + op_at op → op_at op < count
+      → ((words : List ℕ) (views : List (PartyView C)) (phases : List ℕ) → holds words views phases → IsStep views phases id (party_of me.0) → holds (set words (op_at op) (op_gives op (get_or words (op_at op) 0))) (set views id (with_client (party_of me.0) (then (get_or words (op_at op) 0)))) phases)
+      → Turns holds z phase count slots id me word (op_gives op) (does_client then me)
+  client_turns slots id me word op then at inside law = subst (λ (i : ℕ). Turns holds z phase count slots id me i (op_gives op) (does_client then me)) (sym at)
+      (λ s r _ there _. (
+        client_moved me.0 (then (get_or s.words (client_base z + op_at op) 0)),
+        keeps,
+        tt,
+        client_kept holds z phase count s r id me.0 there (op_at op) (op_gives op) then inside law,
+        (refl, refl),
+      ))
+
+  -- the number that is drawn next is read
+  pub looks_allowed : (slots id : ℕ) (me : Me Kept (WaitView C)) (st : Step Kept) → Turns holds z phase count slots id me 0 (λ n. n) (looks st me)
+  looks_allowed slots id me st s r _ there _ = (
+    me.0,
+    keeps,
+    tt,
+    subst (Rule holds z phase count) (sym same) r,
+    (refl, refl, λ own. (r.roster.drawer id (numbers_of me.0) (at_map numbers_of s.views id me.0 there) own).up_to),
+  )
+    where
+      same : stepped s 0 (get_or s.words 0 0) id me.1 me.0 keeps ≡ s
+      same i = record { words = lib.Seq.set-get_or s.words 0 0 i; homes = s.homes; views = Rattle.atomic_table.proofs.Lists.set_again s.views id me.0 there i }
+
+  -- the seat with the number 0 draws
+  pub draws_allowed : (slots id : ℕ) (me : Me Kept (WaitView C)) (st : Step Kept) (f : ℕ → ℕ) → me.0.own ≡ Some 0 → me.0.pending ≡ None → me.0.drawn + 1 < z.procs → ((n : ℕ) → n < 2 ^ 63 → f n ≡ n + 1)
+      → Turns holds z phase count slots id me 0 f (draws st me)
+  draws_allowed slots id me st f own free room agrees s r _ there _ = (
+    with_drawn me.0,
+    keeps,
+    tt,
+    draw_kept holds z phase count s r id me.0 there own free room (f (get_or s.words 0 0)) (agrees (get_or s.words 0 0) (let few = r.roster.few in let most = r.sized.procs in omega arith)),
+    (refl, refl),
+  )
+
+  -- a new seat has the number drawn
+  pub cuts_allowed : (id : ℕ) (v : WaitView C) (n : ℕ) → v.pending ≡ Some n → (c : C)
+      → ((words : List ℕ) (views : List (PartyView C)) (phases : List ℕ) (proc : ℕ) → holds words views phases → IsDraw views phases proc → holds words (views ++ newcomer c (Some proc) ∷ []) phases)
+      → Cuts holds z phase count id v (stays v) (comes c v)
+  cuts_allowed id v n drawn c law s r there = seat_kept holds z phase count s r id v there n drawn c law
+
+  -- a seat takes in another
+  pub glues_allowed : (id : ℕ) (v : WaitView C) (other : ℕ) (w : WaitView C) → w.place ≡ [] → w.attached ≡ [] → w.pending ≡ None → (both : C → C → C) (c : C)
+      → ((words : List ℕ) (views : List (PartyView C)) (phases : List ℕ) → holds words views phases → IsJoin views phases id (party_of v) other (party_of w) → holds words (set (set views id (joined both (party_of v) (party_of w))) other (left_over c)) phases)
+      → Glues holds z phase count id v other w (took_in both v w) (spent_view c)
+  glues_allowed id v other w idle free none both c law s r at apart there =
+      join_kept holds z phase count s r id v at other w apart (sym (set_else s.views id other (took_in both v w) apart) ∙ there) idle free none both c law

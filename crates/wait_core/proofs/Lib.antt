@@ -1,0 +1,16 @@
+pub mod Totals
+pub mod Stretches
+pub mod Roster
+pub mod Effects
+pub mod Counts
+pub mod MaySleepIsMarked
+pub mod SetLatchWakes
+pub mod ShutdownWakes
+pub mod Nesting
+pub mod RuleKept
+pub mod Untouched
+pub mod SeatsKept
+pub mod Openings
+pub mod Asks
+pub mod Runs
+pub mod Sleepers

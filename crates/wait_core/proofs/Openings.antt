@@ -1,0 +1,67 @@
+-- The table at its opening meets the rule.
+use Rattle.std.proofs.Common.{◌≡◌, ℕ, zero, suc, ◌+◌, ◌<◌, ◌≤◌, Bool, false, List, [], ◌∷◌, ◌++◌, length, drop, get_or, set, Option, None, Some, refl, sym, ap, ◌∙◌, subst, arith, length-append, length-set, get_or-set_same, get_or-set_other}
+use Rattle.std.specs.Prelude.{replicate}
+use Rattle.std.proofs.lemmas.List.{length-replicate, get_or-replicate, get_or_append_left}
+use Rattle.std.proofs.Math.Seq.{drop-append_seam}
+use mathlib.Core.Option as maybe
+use lib.ListN.{get_elem?}
+use Rattle.atomic_table.specs.Table.{opening}
+use Rattle.wait_core.specs.declared.view.Frame.{Frame}
+use Rattle.wait_core.specs.declared.view.Kept.{Kept}
+use Rattle.wait_core.specs.declared.view.PartyView.{PartyView}
+use Rattle.wait_core.specs.declared.view.Size.{Size}
+use Rattle.wait_core.specs.Words.{may_at, client_base, phases, opened, opening_words}
+use Rattle.wait_core.specs.Parties.{newcomer}
+use Rattle.wait_core.specs.Seating.{Standing, fresh}
+use Rattle.wait_core.specs.Places.{may_sleep, past_latch, past_shutdown, backend_count, PlacesFit, IsNested}
+use Rattle.wait_core.specs.Rule.{Rule}
+use Rattle.wait_core.proofs.Roster.{roster_first}
+use Rattle.wait_core.proofs.Untouched.{idle_backend}
+
+pub length-opened : (f : ℕ → ℕ) (n : ℕ) → length (opened f n) ≡ n
+length-opened f zero = refl
+length-opened f (suc n) = let h = length-opened f n in length-append (opened f n) (f n ∷ []) ∙ omega arith
+
+first_place : PlacesFit (record { own = Some 0; place = [] } ∷ [])
+first_place = record { nested = nested_at; unnumbered = numbered_at }
+  where
+    nested_at : (id : ℕ) (v : Standing) → get_elem? (record { own = Some 0; place = [] } ∷ []) id ≡ maybe.some v → IsNested v.place
+    nested_at zero v e = subst (λ (x : Standing). IsNested x.place) (maybe.some-injective _ _ e) tt
+    nested_at (suc i) v e = absurd (maybe.some-ne-none v (sym e))
+
+    numbered_at : (id : ℕ) (v : Standing) → get_elem? (record { own = Some 0; place = [] } ∷ []) id ≡ maybe.some v → v.own ≡ None → v.place ≡ []
+    numbered_at zero v e none = sym (ap (λ (x : Standing). x.place) (maybe.some-injective _ _ e))
+    numbered_at (suc i) v e none = absurd (maybe.some-ne-none v (sym e))
+
+none_there : (p : ℕ) (f : Option Frame → Bool) → f None ≡ false → backend_count p f (record { own = Some 0; place = [] } ∷ []) ≡ 0
+none_there p f none = let a = idle_backend p f (Some 0) none in omega arith
+
+module _ {C : Type 0} (holds : List ℕ → List (PartyView C) → List ℕ → Type 0) (z : Size) (phase count : ℕ) (f : ℕ → ℕ) (c : C) where
+  abbrev machine : List ℕ
+  machine = set (replicate (client_base z) 0) 0 1
+
+  long : length machine ≡ client_base z
+  long = length-set (replicate (client_base z) 0) 0 1 ∙ length-replicate {A = ℕ} (client_base z) 0
+
+  pub length-opening : length (opening_words z f count) ≡ client_base z + count
+  length-opening = length-append machine (opened f count) ∙ (λ i. long i + length-opened f count i)
+
+  zero_at : (i : ℕ) → 0 < i → i < client_base z → get_or (opening_words z f count) i 0 ≡ 0
+  zero_at i some below = get_or_append_left machine (opened f count) 0 i (omega (arith, long))
+      ∙ (get_or-set_other (replicate (client_base z) 0) 0 i 1 0 (λ e. omega arith) ∙ get_or-replicate {A = ℕ} (client_base z) i 0 0 below)
+
+  one_at : get_or (opening_words z f count) 0 0 ≡ 1
+  one_at = get_or_append_left machine (opened f count) 0 0 (omega (arith, long)) ∙ get_or-set_same (replicate (client_base z) 0) 0 1 0 (let l = length-replicate {A = ℕ} (client_base z) 0 in omega arith)
+
+  pub opens : (xs : List Kept) → 0 < z.procs → z.procs ≤ 64 → holds (opened f count) (newcomer c (Some 0) ∷ []) (phases z phase) → Rule holds z phase count (opening (opening_words z f count) xs (fresh c (Some 0)))
+  opens xs some most kept = record {
+    sized = record { procs = (some, most); long = length-opening };
+    flags = λ i above below. let a = zero_at i above below in omega arith;
+    roster = subst (λ (n : ℕ). Rattle.wait_core.specs.Roster.Roster z.procs n (Rattle.wait_core.specs.Roster.numbered (Some 0) ∷ [])) (sym one_at) (roster_first z.procs some);
+    counted = let a = one_at in omega arith;
+    places = first_place;
+    may = λ p below. zero_at (may_at p) (omega arith) (omega arith) ∙ sym (none_there p may_sleep refl);
+    latches = λ p below come up. let a = none_there p past_latch refl in absurd (omega arith);
+    shutdown = λ p below come up. let a = none_there p past_shutdown refl in absurd (omega arith);
+    client = subst (λ (ws : List ℕ). holds ws (newcomer c (Some 0) ∷ []) (phases z phase)) (sym ((λ i. drop (sym long i) (machine ++ opened f count)) ∙ drop-append_seam machine (opened f count))) kept;
+  }

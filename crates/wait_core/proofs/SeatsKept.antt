@@ -1,0 +1,138 @@
+-- Steps of the client, and the drawing and joining of seats, keep the whole rule.
+use Rattle.std.proofs.Common.{◌≡◌, ℕ, ◌+◌, ◌<◌, ◌≤◌, List, [], ◌∷◌, ◌++◌, map, drop, length, get_or, set, Option, None, Some, refl, sym, ap, ◌∙◌, subst, arith, length-set, length-append, get_or-set_same, get_or-set_other}
+use Rattle.std.proofs.lemmas.List.{drop-set-lt, drop-set-add, get_or-drop, length-map}
+use mathlib.Core.List.{map-append}
+use mathlib.Core.Option as maybe
+use lib.ListN.{get_elem?}
+use lib.Seq.{map-set}
+use Rattle.atomic_table.specs.Table.{keeps, stepped}
+use Rattle.atomic_table.proofs.Lists.{at_map, set_else}
+use Rattle.wait_core.specs.declared.view.PartyView.{PartyView}
+use Rattle.wait_core.specs.declared.view.Size.{Size}
+use Rattle.wait_core.specs.declared.view.WaitView.{WaitView}
+use Rattle.wait_core.specs.Roster.{Numbers, Roster, numbered, one_if, drew, gave, took}
+use Rattle.wait_core.specs.Words.{client_base, phases}
+use Rattle.wait_core.specs.Machine.{WaitState}
+use Rattle.wait_core.specs.Parties.{with_client, newcomer, joined, left_over, IsStep, IsDraw, IsJoin}
+use Rattle.wait_core.specs.Seating.{Standing, numbers_of, standing_of, party_of, client_moved, with_drawn, stays, comes, took_in, spent_view}
+use Rattle.wait_core.specs.Rule.{SeatsAreCounted, Rule}
+use Rattle.wait_core.proofs.Totals.{total_set, total_snoc, total_at}
+use Rattle.wait_core.proofs.Stretches.{unseen}
+use Rattle.wait_core.proofs.Roster.{roster_drawn, roster_split, roster_join, pending_inside}
+use Rattle.wait_core.proofs.Untouched.{Agree, SameCounts, counts_are, counts_snoc, counts_idle, flags_same, may_same, latches_same, shutdown_same, places_snoc, places_idle}
+
+module _ {C : Type 0} (holds : List ℕ → List (PartyView C) → List ℕ → Type 0) (z : Size) (phase count : ℕ) where
+  -- there are at most as many views as numbers
+  pub few_views : (s : WaitState C) → Rule holds z phase count s → length (map party_of s.views) ≤ 64
+  few_views s r = let a = r.counted in let b = r.roster.few in let c = r.sized.procs in let x = length-map s.views numbers_of in let y = length-map s.views party_of in omega arith
+
+  -- a step of the client's f on its word k
+  pub client_kept : (s : WaitState C) → Rule holds z phase count s → (id : ℕ) (v : WaitView C) → get_elem? s.views id ≡ maybe.some v → (k : ℕ) (f : ℕ → ℕ) (then : ℕ → C) → k < count
+      → ((words : List ℕ) (views : List (PartyView C)) (phases : List ℕ) → holds words views phases → IsStep views phases id (party_of v) → holds (set words k (f (get_or words k 0))) (set views id (with_client (party_of v) (then (get_or words k 0)))) phases)
+      → let n = get_or s.words (client_base z + k) 0 in Rule holds z phase count (stepped s (client_base z + k) (f n) id [] (client_moved v (then n)) keeps)
+  client_kept s r id v at k f then below law =
+      let b : ℕ = client_base z in let n : ℕ = get_or s.words (b + k) 0 in let w : WaitView C = client_moved v (then n) in
+      let agree : Agree z s.words (set s.words (b + k) (f n)) = λ i some inside. get_or-set_other s.words (b + k) i (f n) 0 (λ e. omega arith) in
+      let same = counts_are (map standing_of s.views) (map standing_of (set s.views id w)) (unseen standing_of s.views id v w at refl) in
+      let first : get_or (set s.words (b + k) (f n)) 0 0 ≡ get_or s.words 0 0 = get_or-set_other s.words (b + k) 0 (f n) 0 (λ e. omega arith) in
+      let numbers = sym (unseen numbers_of s.views id v w at refl) in
+      let found : get_or (drop b s.words) k 0 ≡ n = get_or-drop b s.words k 0 in
+      record {
+        sized = record { procs = r.sized.procs; long = length-set s.words (b + k) (f n) ∙ r.sized.long };
+        flags = flags_same z s.words (set s.words (b + k) (f n)) (map standing_of s.views) (map standing_of (set s.views id w)) agree same r.flags;
+        roster = subst (λ (x : ℕ × List Numbers). Roster z.procs x.0 x.1) (λ j. (sym first j, numbers j)) r.roster;
+        counted = subst (λ (x : ℕ × List Numbers). SeatsAreCounted x.0 x.1) (λ j. (sym first j, numbers j)) r.counted;
+        places = subst Rattle.wait_core.specs.Places.PlacesFit (sym (unseen standing_of s.views id v w at refl)) r.places;
+        may = may_same z s.words (set s.words (b + k) (f n)) (map standing_of s.views) (map standing_of (set s.views id w)) agree same r.may;
+        latches = latches_same z s.words (set s.words (b + k) (f n)) (map standing_of s.views) (map standing_of (set s.views id w)) agree same r.latches;
+        shutdown = shutdown_same z s.words (set s.words (b + k) (f n)) (map standing_of s.views) (map standing_of (set s.views id w)) agree same r.shutdown;
+        client = subst (λ (x : List ℕ × List (PartyView C)). holds x.0 x.1 (phases z phase))
+            (λ i. (sym (drop-set-add b s.words k (f n)) i, sym (map-set party_of s.views id w) i))
+            (subst (λ (x : ℕ). holds (set (drop b s.words) k (f x)) (set (map party_of s.views) id (with_client (party_of v) (then x))) (phases z phase)) found
+            (law (drop b s.words) (map party_of s.views) (phases z phase) r.client (record { at = at_map party_of s.views id v at; few = few_views s r })));
+      }
+
+  -- the seat with the number 0 draws the next
+  pub draw_kept : (s : WaitState C) → Rule holds z phase count s → (id : ℕ) (v : WaitView C) → get_elem? s.views id ≡ maybe.some v → v.own ≡ Some 0 → v.pending ≡ None → v.drawn + 1 < z.procs → (x : ℕ) → x ≡ get_or s.words 0 0 + 1
+      → Rule holds z phase count (stepped s 0 x id [] (with_drawn v) keeps)
+  draw_kept s r id v at own free room x is =
+      let w : WaitView C = with_drawn v in let next : ℕ = get_or s.words 0 0 in let ns = map numbers_of s.views in let at' = at_map numbers_of s.views id v at in
+      let up = (r.roster.drawer id (numbers_of v) at' own).up_to in let long = r.sized.long in
+      let agree : Agree z s.words (set s.words 0 x) = λ i some inside. get_or-set_other s.words 0 i x 0 (λ e. omega arith) in
+      let same = counts_are (map standing_of s.views) (map standing_of (set s.views id w)) (unseen standing_of s.views id v w at refl) in
+      let first : get_or (set s.words 0 x) 0 0 ≡ next + 1 = get_or-set_same s.words 0 x 0 (omega arith) ∙ is in
+      let numbers : set ns id (drew (numbers_of v)) ≡ map numbers_of (set s.views id w) = sym (map-set numbers_of s.views id w) in
+      record {
+        sized = record { procs = r.sized.procs; long = length-set s.words 0 x ∙ long };
+        flags = flags_same z s.words (set s.words 0 x) (map standing_of s.views) (map standing_of (set s.views id w)) agree same r.flags;
+        roster = subst (λ (y : ℕ × List Numbers). Roster z.procs y.0 y.1) (λ j. (sym first j, numbers j)) (roster_drawn z.procs next ns id (numbers_of v) r.roster at' own free (omega arith));
+        counted = subst (λ (y : ℕ × List Numbers). SeatsAreCounted y.0 y.1) (λ j. (sym first j, numbers j))
+            (let sum = total_set (λ (u : Numbers). one_if u.pending) ns id (numbers_of v) (drew (numbers_of v)) at' in let none : one_if v.pending ≡ 0 = ap one_if free in let c = r.counted in let d = length-set ns id (drew (numbers_of v)) in omega arith);
+        places = subst Rattle.wait_core.specs.Places.PlacesFit (sym (unseen standing_of s.views id v w at refl)) r.places;
+        may = may_same z s.words (set s.words 0 x) (map standing_of s.views) (map standing_of (set s.views id w)) agree same r.may;
+        latches = latches_same z s.words (set s.words 0 x) (map standing_of s.views) (map standing_of (set s.views id w)) agree same r.latches;
+        shutdown = shutdown_same z s.words (set s.words 0 x) (map standing_of s.views) (map standing_of (set s.views id w)) agree same r.shutdown;
+        client = subst (λ (y : List ℕ × List (PartyView C)). holds y.0 y.1 (phases z phase)) (λ j. (sym (drop-set-lt (client_base z) s.words 0 x (omega arith)) j, sym (unseen party_of s.views id v w at refl) j)) r.client;
+      }
+
+  -- the number drawn goes to a new seat
+  pub seat_kept : (s : WaitState C) → Rule holds z phase count s → (id : ℕ) (v : WaitView C) → get_elem? s.views id ≡ maybe.some v → (n : ℕ) → v.pending ≡ Some n → (c : C)
+      → ((words : List ℕ) (views : List (PartyView C)) (phases : List ℕ) (proc : ℕ) → holds words views phases → IsDraw views phases proc → holds words (views ++ newcomer c (Some proc) ∷ []) phases)
+      → Rule holds z phase count record { words = s.words; homes = s.homes; views = set s.views id (stays v) ++ comes c v ∷ [] }
+  seat_kept s r id v at n drawn c law =
+      let vs = set s.views id (stays v) in let w : WaitView C = comes c v in let ns = map numbers_of s.views in let at' = at_map numbers_of s.views id v at in
+      let agree : Agree z s.words s.words = λ i some inside. refl in
+      let standing : map standing_of (vs ++ w ∷ []) ≡ map standing_of s.views ++ record { own = v.pending; place = [] } ∷ [] = map-append standing_of vs (w ∷ []) ∙ ap (λ (l : List Standing). l ++ record { own = v.pending; place = [] } ∷ []) (unseen standing_of s.views id v (stays v) at refl) in
+      let same : SameCounts (map standing_of s.views) (map standing_of (vs ++ w ∷ [])) = subst (SameCounts (map standing_of s.views)) (sym standing) (counts_snoc (map standing_of s.views) v.pending) in
+      let numbers : set ns id (gave (numbers_of v)) ++ numbered v.pending ∷ [] ≡ map numbers_of (vs ++ w ∷ []) = sym (map-append numbers_of vs (w ∷ []) ∙ ap (λ (l : List Numbers). l ++ numbered v.pending ∷ []) (map-set numbers_of s.views id (stays v))) in
+      let parties : map party_of s.views ++ newcomer c (Some n) ∷ [] ≡ map party_of (vs ++ w ∷ []) = sym (map-append party_of vs (w ∷ []) ∙ (ap (λ (l : List (PartyView C)). l ++ newcomer c v.pending ∷ []) (unseen party_of s.views id v (stays v) at refl) ∙ ap (λ (o : Option ℕ). map party_of s.views ++ newcomer c o ∷ []) drawn)) in
+      let one : one_if v.pending ≡ 1 = ap one_if drawn in let all = r.counted in let few = r.roster.few in let most = r.sized.procs in
+      let low = total_at (λ (u : Numbers). one_if u.pending) ns id (numbers_of v) at' in
+      let x = length-map s.views numbers_of in let y = length-map s.views party_of in
+      record {
+        sized = r.sized;
+        flags = r.flags;
+        roster = subst (Roster z.procs (get_or s.words 0 0)) numbers (roster_split z.procs (get_or s.words 0 0) ns id (numbers_of v) r.roster at');
+        counted = subst (SeatsAreCounted (get_or s.words 0 0)) numbers
+            (let a = total_set (λ (u : Numbers). one_if u.pending) ns id (numbers_of v) (gave (numbers_of v)) at' in let b = total_snoc (λ (u : Numbers). one_if u.pending) (set ns id (gave (numbers_of v))) (numbered v.pending) in
+            let d = length-set ns id (gave (numbers_of v)) in let e = length-append (set ns id (gave (numbers_of v))) (numbered v.pending ∷ []) in omega arith);
+        places = subst Rattle.wait_core.specs.Places.PlacesFit (sym standing) (places_snoc (map standing_of s.views) v.pending r.places);
+        may = may_same z s.words s.words (map standing_of s.views) (map standing_of (vs ++ w ∷ [])) agree same r.may;
+        latches = latches_same z s.words s.words (map standing_of s.views) (map standing_of (vs ++ w ∷ [])) agree same r.latches;
+        shutdown = shutdown_same z s.words s.words (map standing_of s.views) (map standing_of (vs ++ w ∷ [])) agree same r.shutdown;
+        client = subst (λ (l : List (PartyView C)). holds (drop (client_base z) s.words) l (phases z phase)) parties
+            (law (drop (client_base z) s.words) (map party_of s.views) (phases z phase) n r.client
+            (record { few = omega arith; proc_below = let b = pending_inside z.procs (get_or s.words 0 0) ns r.roster id n (numbers_of v) at' drawn in omega arith }));
+      }
+
+  -- a seat takes in another, which is in no call
+  pub join_kept : (s : WaitState C) → Rule holds z phase count s → (id : ℕ) (v : WaitView C) → get_elem? s.views id ≡ maybe.some v → (other : ℕ) (w : WaitView C) → (other ≡ id → ⊥) → get_elem? s.views other ≡ maybe.some w
+      → w.place ≡ [] → w.attached ≡ [] → w.pending ≡ None → (both : C → C → C) (c : C)
+      → ((words : List ℕ) (views : List (PartyView C)) (phases : List ℕ) → holds words views phases → IsJoin views phases id (party_of v) other (party_of w) → holds words (set (set views id (joined both (party_of v) (party_of w))) other (left_over c)) phases)
+      → Rule holds z phase count record { words = s.words; homes = s.homes; views = set (set s.views id (took_in both v w)) other (spent_view c) }
+  join_kept s r id v at other w apart there idle free none both c law =
+      let x : WaitView C = took_in both v w in let y : WaitView C = spent_view c in let vs = set s.views id x in let ns = map numbers_of s.views in
+      let at' = at_map numbers_of s.views id v at in
+      let there' : get_elem? vs other ≡ maybe.some w = set_else s.views id other x apart ∙ there in
+      let agree : Agree z s.words s.words = λ i some inside. refl in
+      let standing : map standing_of (set vs other y) ≡ set (map standing_of s.views) other record { own = None; place = [] } = map-set standing_of vs other y ∙ ap (λ (l : List Standing). set l other record { own = None; place = [] }) (unseen standing_of s.views id v x at refl) in
+      let stood : get_elem? (map standing_of s.views) other ≡ maybe.some record { own = w.own; place = [] } = at_map standing_of s.views other w there ∙ ap (λ (p : Rattle.wait_core.specs.Machine.Place). maybe.some record { own = w.own; place = p }) idle in
+      let same : SameCounts (map standing_of s.views) (map standing_of (set vs other y)) = subst (SameCounts (map standing_of s.views)) (sym standing) (counts_idle (map standing_of s.views) other w.own None stood) in
+      let numbers : set (set ns id (took (numbers_of v) (numbers_of w))) other (numbered None) ≡ map numbers_of (set vs other y) = sym (map-set numbers_of vs other y ∙ ap (λ (l : List Numbers). set l other (numbered None)) (map-set numbers_of s.views id x)) in
+      let there_n : get_elem? (set ns id (took (numbers_of v) (numbers_of w))) other ≡ maybe.some (numbers_of w) = set_else ns id other (took (numbers_of v) (numbers_of w)) apart ∙ at_map numbers_of s.views other w there in
+      let parties : set (set (map party_of s.views) id (joined both (party_of v) (party_of w))) other (left_over c) ≡ map party_of (set vs other y) = sym (map-set party_of vs other y ∙ ap (λ (l : List (PartyView C)). set l other (left_over c)) (map-set party_of s.views id x)) in
+      record {
+        sized = r.sized;
+        flags = r.flags;
+        roster = subst (Roster z.procs (get_or s.words 0 0)) numbers (roster_join z.procs (get_or s.words 0 0) ns id (numbers_of v) other (numbers_of w) r.roster at' there_n none);
+        counted = subst (SeatsAreCounted (get_or s.words 0 0)) numbers
+            (let f : Numbers → ℕ = λ u. one_if u.pending in let a = total_set f ns id (numbers_of v) (took (numbers_of v) (numbers_of w)) at' in let b = total_set f (set ns id (took (numbers_of v) (numbers_of w))) other (numbers_of w) (numbered None) there_n in
+            let d = length-set ns id (took (numbers_of v) (numbers_of w)) in let e = length-set (set ns id (took (numbers_of v) (numbers_of w))) other (numbered None) in let gone : one_if w.pending ≡ 0 = ap one_if none in let all = r.counted in omega arith);
+        places = subst Rattle.wait_core.specs.Places.PlacesFit (sym standing) (places_idle (map standing_of s.views) other None r.places);
+        may = may_same z s.words s.words (map standing_of s.views) (map standing_of (set vs other y)) agree same r.may;
+        latches = latches_same z s.words s.words (map standing_of s.views) (map standing_of (set vs other y)) agree same r.latches;
+        shutdown = shutdown_same z s.words s.words (map standing_of s.views) (map standing_of (set vs other y)) agree same r.shutdown;
+        client = subst (λ (l : List (PartyView C)). holds (drop (client_base z) s.words) l (phases z phase)) parties
+            (law (drop (client_base z) s.words) (map party_of s.views) (phases z phase) r.client
+            (record { at = at_map party_of s.views id v at; apart = apart; there = at_map party_of s.views other w there; free = free; few = few_views s r }));
+      }

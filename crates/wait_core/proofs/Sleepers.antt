@@ -1,0 +1,43 @@
+-- What the rule says of who sleeps.
+use Rattle.std.proofs.Common.{◌≡◌, ℕ, ◌<◌, Bool, true, List, map, get_or, Option, None, Some, refl, ap, ◌∙◌, arith}
+use mathlib.Core.Option as maybe
+use lib.ListN.{get_elem?}
+use Rattle.atomic_table.proofs.Lists.{at_map}
+use Rattle.wait_core.specs.declared.view.Frame.{Frame}
+use Rattle.wait_core.specs.declared.view.Frame.TheVariants.{Asleep}
+use Rattle.wait_core.specs.declared.view.PartyView.{PartyView}
+use Rattle.wait_core.specs.declared.view.Size.{Size}
+use Rattle.wait_core.specs.declared.view.WaitView.{WaitView}
+use Rattle.wait_core.specs.Words.{set_at, may_at, shut_at}
+use Rattle.wait_core.specs.Machine.{WaitState, top, bit}
+use Rattle.wait_core.specs.Seating.{numbers_of, standing_of}
+use Rattle.wait_core.specs.Places.{may_sleep, past_latch, past_shutdown, is_asleep, backend_count}
+use Rattle.wait_core.specs.Rule.{Rule}
+use Rattle.wait_core.specs.Wakes.{IsAsleep, SleepsTillShutdown, LatchWakePending, ShutdownWakePending}
+use Rattle.wait_core.proofs.Counts.{backend_is}
+use Rattle.wait_core.proofs.Roster.{one_seat}
+use Rattle.wait_core.proofs.RuleKept.{alone, own_below}
+
+sleeps_past_latch : (t : Option Frame) → is_asleep t ≡ true → past_latch t ≡ true
+sleeps_past_latch (Some (Asleep w)) h = refl
+sleeps_past_latch None h = h
+sleeps_past_latch (Some f) h = absurd (cc)
+
+module _ {C : Type 0} (holds : List ℕ → List (PartyView C) → List ℕ → Type 0) (z : Size) (phase count : ℕ) (s : WaitState C) (r : Rule holds z phase count s) (id p : ℕ) (v : WaitView C) (at : get_elem? s.views id ≡ maybe.some v) (own : v.own ≡ Some p) where
+  counted : (f : Option Frame → Bool) → backend_count p f (map standing_of s.views) ≡ bit (f (top v.place))
+  counted f = backend_is (map standing_of s.views) (alone z.procs (get_or s.words 0 0) s.views r.roster) id p (standing_of v) f (at_map standing_of s.views id v at) own
+
+  below : p < z.procs
+  below = own_below holds z phase count s r id v p at own
+
+  pub asleep_wakes : IsAsleep v → get_or s.words (set_at p) 0 ≡ 1 → LatchWakePending p s
+  asleep_wakes asleep up = r.latches p below (let a = counted past_latch in let b : bit (past_latch (top v.place)) ≡ 1 = ap bit (sleeps_past_latch (top v.place) asleep) in omega arith) up
+
+  pub stopped_wakes : SleepsTillShutdown v → get_or s.words (shut_at z) 0 ≡ 1 → ShutdownWakePending p s
+  stopped_wakes asleep up = r.shutdown p below (let a = counted past_shutdown in let b : bit (past_shutdown (top v.place)) ≡ 1 = ap (λ t. bit (past_shutdown t)) asleep in omega arith) up
+
+  pub marked_here : get_or s.words (may_at p) 0 ≡ bit (may_sleep (top v.place))
+  marked_here = r.may p below ∙ counted may_sleep
+
+  pub one_of : (j : ℕ) (u : WaitView C) → get_elem? s.views j ≡ maybe.some u → u.own ≡ Some p → id ≡ j
+  one_of j u there mine = one_seat z.procs (get_or s.words 0 0) (map numbers_of s.views) r.roster id j p (numbers_of v) (numbers_of u) (at_map numbers_of s.views id v at) (at_map numbers_of s.views j u there) own mine

@@ -1,0 +1,86 @@
+-- What touches no word of the machine, and no seat that stands in a call, keeps the machine's parts of the rule.
+use Rattle.std.proofs.Common.{◌≡◌, ◌⊎◌, ◌≢◌, ℕ, zero, suc, ◌<◌, Bool, true, false, cond, List, [], ◌∷◌, ◌++◌, get_or, set, Option, None, refl, sym, ap, ◌∙◌, subst, ⊎_elim, inl, inr, arith}
+use mathlib.Core.Option as maybe
+use lib.ListN.{get_elem?}
+use Rattle.atomic_table.proofs.Lists.{at_set}
+use Rattle.wait_core.specs.declared.view.Frame.{Frame}
+use Rattle.wait_core.specs.declared.view.Size.{Size}
+use Rattle.wait_core.specs.Words.{set_at, may_at, byte_at, shut_at, client_base}
+use Rattle.wait_core.specs.Machine.{bit}
+use Rattle.wait_core.specs.Seating.{Standing}
+use Rattle.wait_core.specs.Places.{stands_for, may_sleep, past_latch, past_shutdown, tells, stops, of_backend, of_any, backend_count, count_of, PlacesFit, IsNested}
+use Rattle.wait_core.specs.MaySleepIsMarked.{MaySleepIsMarked}
+use Rattle.wait_core.specs.SetLatchWakes.{SetLatchWakes}
+use Rattle.wait_core.specs.ShutdownWakes.{ShutdownWakes}
+use Rattle.wait_core.specs.Rule.{Flags}
+use Rattle.wait_core.proofs.Totals.{total_set, total_snoc}
+
+-- the words of backends and the shutdown word are the same
+abbrev pub Agree : Size → List ℕ → List ℕ → Type 0
+Agree z words new = (i : ℕ) → 0 < i → i < client_base z → get_or new i 0 ≡ get_or words i 0
+
+-- as many seats stand at each frame
+pub record SameCounts (seats new : List Standing) : Type 0 where
+  pub backend : (p : ℕ) (f : Option Frame → Bool) → f None ≡ false → backend_count p f new ≡ backend_count p f seats
+  pub any : (f : Option Frame → Bool) → f None ≡ false → count_of f new ≡ count_of f seats
+
+pub same_counts : (seats : List Standing) → SameCounts seats seats
+same_counts seats = record { backend = λ p f none. refl; any = λ f none. refl }
+
+pub counts_are : (seats new : List Standing) → new ≡ seats → SameCounts seats new
+counts_are seats new is = subst (SameCounts seats) (sym is) (same_counts seats)
+
+pub idle_backend : (p : ℕ) (f : Option Frame → Bool) (own : Option ℕ) → f None ≡ false → of_backend p f record { own = own; place = [] } ≡ 0
+idle_backend p f own none = by_case (stands_for p own)
+  where
+    by_case : (b : Bool) → cond b (bit (f None)) 0 ≡ 0
+    by_case true = ap bit none
+    by_case false = refl
+
+-- a seat comes that is in no call
+pub counts_snoc : (seats : List Standing) (own : Option ℕ) → SameCounts seats (seats ++ record { own = own; place = [] } ∷ [])
+counts_snoc seats own = record {
+  backend = λ p f none. let a = total_snoc (of_backend p f) seats record { own = own; place = [] } in let b = idle_backend p f own none in omega arith;
+  any = λ f none. let a = total_snoc (of_any f) seats record { own = own; place = [] } in let b : bit (f None) ≡ 0 = ap bit none in omega arith;
+}
+
+-- a seat in no call stays in none
+pub counts_idle : (seats : List Standing) (id : ℕ) (own new : Option ℕ) → get_elem? seats id ≡ maybe.some record { own = own; place = [] } → SameCounts seats (set seats id record { own = new; place = [] })
+counts_idle seats id own new at = record {
+  backend = λ p f none. let a = total_set (of_backend p f) seats id record { own = own; place = [] } record { own = new; place = [] } at in let b = idle_backend p f own none in let c = idle_backend p f new none in omega arith;
+  any = λ f none. let a = total_set (of_any f) seats id record { own = own; place = [] } record { own = new; place = [] } at in omega arith;
+}
+
+module _ (z : Size) (words new : List ℕ) (seats after : List Standing) (agree : Agree z words new) (same : SameCounts seats after) where
+  pub flags_same : Flags z words → Flags z new
+  flags_same h i some below = let a = agree i some below in let b = h i some below in omega arith
+
+  pub may_same : MaySleepIsMarked z.procs words seats → MaySleepIsMarked z.procs new after
+  may_same h p below = agree (may_at p) (omega arith) (omega arith) ∙ (h p below ∙ sym (same.backend p may_sleep refl))
+
+  pub latches_same : SetLatchWakes z.procs words seats → SetLatchWakes z.procs new after
+  latches_same h p below come up = let a = same.backend p past_latch refl in let b = same.any (tells p) refl in let byte = agree (byte_at p) (omega arith) (omega arith) in
+      let before = h p below (omega arith) (sym (agree (set_at p) (omega arith) (omega arith)) ∙ up) in omega arith
+
+  pub shutdown_same : ShutdownWakes z words seats → ShutdownWakes z new after
+  shutdown_same h p below come up = let a = same.backend p past_shutdown refl in let b = same.any (stops p) refl in let byte = agree (byte_at p) (omega arith) (omega arith) in
+      let before = h p below (omega arith) (sym (agree (shut_at z) (omega arith) (omega arith)) ∙ up) in omega arith
+
+at_end : (l : List Standing) (a b : Standing) (j : ℕ) → get_elem? (l ++ a ∷ []) j ≡ maybe.some b → (get_elem? l j ≡ maybe.some b) ⊎ (a ≡ b)
+at_end [] a b zero e = inr (maybe.some-injective a b e)
+at_end [] a b (suc j) e = absurd (maybe.some-ne-none b (sym e))
+at_end (x ∷ xs) a b zero e = inl e
+at_end (x ∷ xs) a b (suc j) e = at_end xs a b j e
+
+-- a seat comes that is in no call, or ends in none
+pub places_snoc : (seats : List Standing) (own : Option ℕ) → PlacesFit seats → PlacesFit (seats ++ record { own = own; place = [] } ∷ [])
+places_snoc seats own h = record {
+  nested = λ id v e. ⊎_elim (λ old. h.nested id v old) (λ (is : record { own = own; place = [] } ≡ v). subst (λ (x : Standing). IsNested x.place) is tt) (at_end seats record { own = own; place = [] } v id e);
+  unnumbered = λ id v e none. ⊎_elim (λ old. h.unnumbered id v old none) (λ (is : record { own = own; place = [] } ≡ v). sym (ap (λ (x : Standing). x.place) is)) (at_end seats record { own = own; place = [] } v id e);
+}
+
+pub places_idle : (seats : List Standing) (id : ℕ) (own : Option ℕ) → PlacesFit seats → PlacesFit (set seats id record { own = own; place = [] })
+places_idle seats id own h = record {
+  nested = λ j v e. ⊎_elim (λ (t : (j ≡ id) × (record { own = own; place = [] } ≡ v)). subst (λ (x : Standing). IsNested x.place) t.1 tt) (λ (t : (j ≢ id) × (get_elem? seats j ≡ maybe.some v)). h.nested j v t.1) (at_set seats id j record { own = own; place = [] } v e);
+  unnumbered = λ j v e none. ⊎_elim (λ (t : (j ≡ id) × (record { own = own; place = [] } ≡ v)). sym (ap (λ (x : Standing). x.place) t.1)) (λ (t : (j ≢ id) × (get_elem? seats j ≡ maybe.some v)). h.unnumbered j v t.1 none) (at_set seats id j record { own = own; place = [] } v e);
+}

@@ -1,0 +1,39 @@
+-- The rule of the table, which holds between any two steps. Each part speaks of some words and of what it sees of each view.
+use Rattle.std.specs.Prelude.{◌≡◌, ℕ, ◌+◌, ◌<◌, ◌≤◌, List, map, length, slice_index}
+use Rattle.wait_core.specs.declared.view.PartyView.{PartyView}
+use Rattle.wait_core.specs.declared.view.Size.{Size}
+use Rattle.wait_core.specs.Totals.{total}
+use Rattle.wait_core.specs.Roster.{Numbers, Roster, one_if}
+use Rattle.wait_core.specs.Words.{client_base}
+use Rattle.wait_core.specs.Machine.{WaitState}
+use Rattle.wait_core.specs.Seating.{numbers_of, standing_of, party_of}
+use Rattle.wait_core.specs.Places.{PlacesFit}
+use Rattle.wait_core.specs.MaySleepIsMarked.{MaySleepIsMarked}
+use Rattle.wait_core.specs.SetLatchWakes.{SetLatchWakes}
+use Rattle.wait_core.specs.ShutdownWakes.{ShutdownWakes}
+use Rattle.wait_core.specs.ClientHolds.{ClientHolds}
+
+-- the numbers of backends, conditions and barriers, and of words
+pub record Sized (z : Size) (count words : ℕ) : Type 0 where
+  pub procs : (0 < z.procs) × (z.procs ≤ 64)
+  pub long : words ≡ client_base z + count
+
+-- each word between the next number and the client's is 0 or 1
+abbrev pub Flags : Size → List ℕ → Type 0
+Flags z words = (i : ℕ) → 0 < i → i < client_base z → slice_index words i ≤ 1
+
+-- each number drawn has a seat, or is to get one
+abbrev pub SeatsAreCounted : ℕ → List Numbers → Type 0
+SeatsAreCounted next seats = length seats + total (λ v. one_if v.pending) seats ≡ next
+
+module _ {C : Type 0} (holds : List ℕ → List (PartyView C) → List ℕ → Type 0) (z : Size) (phase count : ℕ) where
+  pub record Rule (s : WaitState C) : Type 0 where
+    pub sized : Sized z count (length s.words)
+    pub flags : Flags z s.words
+    pub roster : Roster z.procs (slice_index s.words 0) (map numbers_of s.views)
+    pub counted : SeatsAreCounted (slice_index s.words 0) (map numbers_of s.views)
+    pub places : PlacesFit (map standing_of s.views)
+    pub may : MaySleepIsMarked z.procs s.words (map standing_of s.views)
+    pub latches : SetLatchWakes z.procs s.words (map standing_of s.views)
+    pub shutdown : ShutdownWakes z s.words (map standing_of s.views)
+    pub client : ClientHolds holds z phase s.words (map party_of s.views)

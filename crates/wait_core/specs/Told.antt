@@ -1,0 +1,40 @@
+-- What each step tells its seat.
+use Rattle.std.specs.Prelude.{◌≡◌, ℕ, ◌+◌, ◌≤◌, List, Some}
+use Rattle.atomic_table.specs.Table.{Me, Step, Allows, Splits, Joins}
+use Rattle.wait_core.specs.declared.step.WaitStep.{WaitStep}
+use Rattle.wait_core.specs.declared.view.Kept.{Kept}
+use Rattle.wait_core.specs.declared.view.PartyView.{PartyView}
+use Rattle.wait_core.specs.declared.view.Size.{Size}
+use Rattle.wait_core.specs.declared.view.WaitView.{WaitView}
+use Rattle.wait_core.specs.Machine.{next}
+use Rattle.wait_core.specs.Seating.{client_moved, with_drawn}
+use Rattle.wait_core.specs.Rule.{Rule}
+
+module _ {C : Type 0} where
+  -- a step of the machine that found n: the view goes on as the machine says, and n was 0 or 1
+  abbrev pub does : Size → WaitStep → Me Kept (WaitView C) → ℕ → Me Kept (WaitView C) → Type 0
+  does z k m n m' = (m'.0 ≡ next z k m.0 n) × (m'.1 ≡ m.1) × (n ≤ 1)
+
+  -- a step of the client, after which its view is c of the word found
+  abbrev pub does_client : (ℕ → C) → Me Kept (WaitView C) → ℕ → Me Kept (WaitView C) → Type 0
+  does_client c m n m' = (m'.0 ≡ client_moved m.0 (c n)) × (m'.1 ≡ m.1)
+
+  -- the number that is drawn next is one more than those drawn
+  abbrev pub looks : Step Kept → Me Kept (WaitView C) → ℕ → Me Kept (WaitView C) → Type 0
+  looks st m n m' = (m'.0 ≡ m.0) × (m'.1 ≡ m.1) × (m.0.own ≡ Some 0 → n ≡ m.0.drawn + 1)
+
+  abbrev pub draws : Step Kept → Me Kept (WaitView C) → ℕ → Me Kept (WaitView C) → Type 0
+  draws st m n m' = (m'.0 ≡ with_drawn m.0) × (m'.1 ≡ m.1)
+
+  module _ (holds : List ℕ → List (PartyView C) → List ℕ → Type 0) (z : Size) (phase count : ℕ) where
+    -- whatever the table is when the word becomes f of what it was, the seat goes on as `gives` says
+    abbrev pub Turns : ℕ → ℕ → Me Kept (WaitView C) → ℕ → (ℕ → ℕ) → (ℕ → Me Kept (WaitView C) → Type 0) → Type 0
+    Turns slots id me word f gives = Allows (Rule holds z phase count) slots id me word f gives
+
+    -- a seat's view is cut in two
+    abbrev pub Cuts : ℕ → WaitView C → WaitView C → WaitView C → Type 0
+    Cuts id v left right = Splits {S = Kept} (Rule holds z phase count) id v left right
+
+    -- a seat takes in another
+    abbrev pub Glues : ℕ → WaitView C → ℕ → WaitView C → WaitView C → WaitView C → Type 0
+    Glues id v other w both spent = Joins {S = Kept} (Rule holds z phase count) id v other w both spent

@@ -1,0 +1,40 @@
+-- The words of a table. First the number that is drawn next; then three words of each backend: its latch, whether it may sleep, and its wake byte; then the shutdown word, the spin words of conditions and of barriers, and the client's words.
+use Rattle.std.specs.Prelude.{ℕ, zero, suc, ◌+◌, ◌*◌, List, [], ◌∷◌, ◌++◌, drop, replicate, slice_set}
+use Rattle.wait_core.specs.declared.view.Size.{Size}
+
+abbrev pub set_at : ℕ → ℕ
+set_at p = 3 * p + 1
+
+abbrev pub may_at : ℕ → ℕ
+may_at p = 3 * p + 2
+
+abbrev pub byte_at : ℕ → ℕ
+byte_at p = 3 * p + 3
+
+abbrev pub shut_at : Size → ℕ
+shut_at z = 3 * z.procs + 1
+
+abbrev pub cv_at : Size → ℕ → ℕ
+cv_at z c = 3 * z.procs + 2 + c
+
+abbrev pub bar_at : Size → ℕ → ℕ
+bar_at z b = 3 * z.procs + 2 + z.cvs + b
+
+abbrev pub client_base : Size → ℕ
+client_base z = 3 * z.procs + 2 + z.cvs + z.bars
+
+abbrev pub client_words : Size → List ℕ → List ℕ
+client_words z words = drop (client_base z) words
+
+-- the phase of each barrier. Until barriers move, each is at the opening phase
+abbrev pub phases : Size → ℕ → List ℕ
+phases z phase = replicate z.bars phase
+
+-- the first n numbers that f gives
+abbrev pub opened : (ℕ → ℕ) → ℕ → List ℕ
+opened f zero = []
+opened f (suc n) = opened f n ++ f n ∷ []
+
+-- the words at the opening: the first number is given, and all else of the machine is 0
+abbrev pub opening_words : Size → (ℕ → ℕ) → ℕ → List ℕ
+opening_words z f count = slice_set (replicate (client_base z) 0) 0 1 ++ opened f count

@@ -1,0 +1,72 @@
+//! Theorems over states and runs of the machine's definitions. The functions do nothing.
+ghost use Rattle.std.specs.Prelude.{◌≡◌, ◌<◌, ◌≤◌, ◌+◌, ◌∷◌, [], ℕ, List, Some, slice_index, drop};
+ghost use mathlib.Core.Option as maybe;
+ghost use lib.ListN.{get_elem?};
+ghost use Rattle.atomic_table.specs.Table.{opening};
+ghost use Rattle.wait_core.specs.declared.step.WaitStep.{WaitStep};
+ghost use Rattle.wait_core.specs.declared.view.Kept.{Kept};
+ghost use Rattle.wait_core.specs.declared.view.WaitView.{WaitView};
+ghost use Rattle.wait_core.specs.Words.{set_at, may_at, shut_at, client_base, client_words, opened, opening_words, phases};
+ghost use Rattle.wait_core.specs.Machine.{WaitState, top, bit, Allowed, after};
+ghost use Rattle.wait_core.specs.Parties.{newcomer};
+ghost use Rattle.wait_core.specs.Places.{may_sleep};
+ghost use Rattle.wait_core.specs.Seating.{party_of, fresh};
+ghost use Rattle.wait_core.specs.Rule.{Rule};
+ghost use Rattle.wait_core.specs.Runs.{Deed, Steps, Runs, after_client};
+ghost use Rattle.wait_core.specs.Wakes.{IsAsleep, SleepsTillShutdown, LatchWakePending, ShutdownWakePending};
+
+use crate::party::Party;
+use crate::view::Size;
+
+/// The opening meets the rule, where the client's law holds there.
+pub fn opening_holds<P: Party>(party: &P, size: Size, phase: u64)
+    requires { (0 < size.procs) × (size.procs ≤ 64) }
+    ensures { (homes : List Kept) → P.holds party.now (opened (P.opens party.now) (P.word_count party.now)) (newcomer (P.first party.now) (Some 0) ∷ []) (phases size phase) → Rule (P.holds party.now) size phase (P.word_count party.now) (opening (opening_words size (P.opens party.now) (P.word_count party.now)) homes (fresh (P.first party.now) (Some 0))) }
+{}
+
+/// Each step of the machine keeps the rule, kind by kind.
+pub fn machine_step_keeps<P: Party>(party: &P, size: Size, phase: u64)
+    ensures { (s : WaitState P.View) (id p : ℕ) (v : WaitView P.View) (k : WaitStep) → Rule (P.holds party.now) size phase (P.word_count party.now) s → get_elem? s.views id ≡ maybe.some v → v.own ≡ Some p → Allowed size k v → Rule (P.holds party.now) size phase (P.word_count party.now) (after size s id v k) }
+{}
+
+/// Whatever a seat does keeps the rule: a step of the machine or of the client, the drawing of a
+/// number, the making of a seat, and the joining of two.
+pub fn each_step_keeps<P: Party>(party: &P, size: Size, phase: u64)
+    ensures { (s t : WaitState P.View) (e : ℕ × Deed P.Step) → Rule (P.holds party.now) size phase (P.word_count party.now) s → Steps (P.does party.now) (P.may party.now) (P.after party.now) (P.first party.now) P.spent P.both size s e t → Rule (P.holds party.now) size phase (P.word_count party.now) t }
+{}
+
+/// Each run keeps it.
+pub fn each_run_keeps<P: Party>(party: &P, size: Size, phase: u64)
+    ensures { (es : List (ℕ × Deed P.Step)) (s t : WaitState P.View) → Rule (P.holds party.now) size phase (P.word_count party.now) s → Runs (P.does party.now) (P.may party.now) (P.after party.now) (P.first party.now) P.spent P.both size s es t → Rule (P.holds party.now) size phase (P.word_count party.now) t }
+{}
+
+/// Nobody is asleep with its own latch set and no wake pending.
+pub fn set_latch_wakes<P: Party>(party: &P, size: Size, phase: u64)
+    ensures { (s : WaitState P.View) (id p : ℕ) (v : WaitView P.View) → Rule (P.holds party.now) size phase (P.word_count party.now) s → get_elem? s.views id ≡ maybe.some v → v.own ≡ Some p → IsAsleep v → slice_index s.words (set_at p) ≡ 1 → LatchWakePending p s }
+{}
+
+/// Nobody is asleep in a wait that a shutdown ends, with the shutdown word at 1 and no wake
+/// pending.
+pub fn shutdown_wakes<P: Party>(party: &P, size: Size, phase: u64)
+    ensures { (s : WaitState P.View) (id p : ℕ) (v : WaitView P.View) → Rule (P.holds party.now) size phase (P.word_count party.now) s → get_elem? s.views id ≡ maybe.some v → v.own ≡ Some p → SleepsTillShutdown v → slice_index s.words (shut_at size) ≡ 1 → ShutdownWakePending p s }
+{}
+
+/// Whether a backend may sleep stands in its word: 0 wherever its seat is in no wait.
+pub fn may_sleep_is_marked<P: Party>(party: &P, size: Size, phase: u64)
+    ensures { (s : WaitState P.View) (id p : ℕ) (v : WaitView P.View) → Rule (P.holds party.now) size phase (P.word_count party.now) s → get_elem? s.views id ≡ maybe.some v → v.own ≡ Some p → slice_index s.words (may_at p) ≡ bit (may_sleep (top v.place)) }
+{}
+
+/// A number is that of one seat.
+pub fn one_seat_a_number<P: Party>(party: &P, size: Size, phase: u64)
+    ensures { (s : WaitState P.View) (id j p : ℕ) (v u : WaitView P.View) → Rule (P.holds party.now) size phase (P.word_count party.now) s → get_elem? s.views id ≡ maybe.some v → get_elem? s.views j ≡ maybe.some u → v.own ≡ Some p → u.own ≡ Some p → id ≡ j }
+{}
+
+/// A step of the machine leaves the client's words.
+pub fn machine_leaves_client<P: Party>(party: &P, size: Size, phase: u64)
+    ensures { (s : WaitState P.View) (id p : ℕ) (v : WaitView P.View) (k : WaitStep) → Rule (P.holds party.now) size phase (P.word_count party.now) s → get_elem? s.views id ≡ maybe.some v → v.own ≡ Some p → Allowed size k v → client_words size (after size s id v k).words ≡ client_words size s.words }
+{}
+
+/// A step of the client leaves all other words.
+pub fn client_leaves_machine<P: Party>(party: &P, size: Size, phase: u64)
+    ensures { (s : WaitState P.View) (id i : ℕ) (v : WaitView P.View) (x : P.Step) → i < client_base size → slice_index (after_client (P.does party.now) (P.may party.now) (P.after party.now) (P.first party.now) P.spent P.both size s id v x).words i ≡ slice_index s.words i }
+{}

@@ -1,0 +1,94 @@
+//! The kinds of step on a word, and the calls that they make up.
+ghost use Rattle.std.specs.Prelude.{◌≡◌, ℕ};
+ghost use Rattle.wait_core.specs.Ops.{op_gives};
+ghost use Rattle.wait_core.specs.Machine.{becomes, writes};
+
+use crate::party::ClientOp;
+use proc_table::ProcNo;
+
+/// What ends a wait on the own latch.
+#[derive(Debug, Clone, Copy, PartialEq, Eq)]
+pub enum Until {
+    Latch,
+    LatchOrShutdown,
+}
+
+/// A call that a step begins.
+#[derive(Debug, Clone, Copy, PartialEq, Eq)]
+pub enum Call {
+    /// Sets the latch of a backend (PostgreSQL's `SetLatch`).
+    Set(ProcNo),
+    /// Resets the own latch (`ResetLatch`).
+    Reset,
+    /// Reads the own latch.
+    IsSet,
+    /// Waits for the own latch (`WaitLatch`).
+    Wait(Until),
+    /// Stores the shutdown word, and wakes everybody.
+    Shut,
+    /// Reads the shutdown word.
+    IsShut,
+}
+
+/// One step on one word. A kind that can be the first step of a call carries the call that it
+/// begins, or None where the call is already under way.
+#[derive(Debug, Clone, Copy, PartialEq, Eq)]
+pub enum WaitStep {
+    /// Loads the latch of a backend.
+    Sload(ProcNo, Option<Call>),
+    /// Stores 1 into the latch of a backend.
+    Sset(ProcNo),
+    /// Stores 0 into the own latch.
+    Reset(Option<Call>),
+    /// Stores whether this backend may sleep.
+    Mstore(bool),
+    /// Loads whether a backend may sleep.
+    Mload(ProcNo),
+    /// Stores 1 into the wake byte of a backend.
+    Byte(ProcNo),
+    /// Loads the own wake byte.
+    Look,
+    /// Swaps the own wake byte with 0.
+    Drain,
+    /// Loads the shutdown word.
+    Shload(Option<Call>),
+    /// Stores 1 into the shutdown word.
+    Shstore(Option<Call>),
+}
+
+/// The word before a step, and whether the step wrote it.
+#[derive(Debug, Clone, Copy, PartialEq, Eq)]
+pub struct WaitSeen {
+    pub old: u64,
+    pub changed: bool,
+}
+
+impl WaitStep {
+    // The operation by which the table makes the step.
+    pub(crate) fn op(self) -> ClientOp
+        ensures { (n : ℕ) → op_gives result n ≡ becomes self n }
+    {
+        match self {
+            WaitStep::Sload(..) | WaitStep::Mload(_) | WaitStep::Look | WaitStep::Shload(_) => {
+                ClientOp::Load { at: 0 }
+            }
+            WaitStep::Sset(_) | WaitStep::Byte(_) | WaitStep::Shstore(_) => {
+                ClientOp::Store { at: 0, value: 1 }
+            }
+            WaitStep::Reset(_) | WaitStep::Drain => ClientOp::Store { at: 0, value: 0 },
+            WaitStep::Mstore(may) => ClientOp::Store {
+                at: 0,
+                value: u64::from(may),
+            },
+        }
+    }
+
+    pub(crate) fn writes(self) -> bool
+        ensures { result ≡ writes self }
+    {
+        !matches!(
+            self,
+            WaitStep::Sload(..) | WaitStep::Mload(_) | WaitStep::Look | WaitStep::Shload(_)
+        )
+    }
+}

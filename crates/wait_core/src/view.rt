@@ -1,0 +1,96 @@
+//! What a seat knows. Values of `Frame`, `Made`, `PartyView` and `WaitView` stand in
+//! contracts alone: the program makes none.
+
+use crate::step::{Until, WaitStep};
+use arrayvec::ArrayVec;
+use proc_table::ProcNo;
+use std::collections::LinkedList;
+
+/// How many backends, conditions and barriers a table has.
+#[derive(Debug, Clone, Copy, PartialEq, Eq)]
+pub struct Size {
+    pub procs: u32,
+    pub cvs: u32,
+    pub bars: u32,
+}
+
+/// What is still to be done of a call. A seat's place is a stack of these, the innermost first.
+pub enum Frame {
+    /// Found the latch of this backend at 0, and will set it.
+    Setting(ProcNo),
+    /// Set it, and will look whether the backend may sleep.
+    Telling(ProcNo),
+    /// Found that it may sleep, and will store its wake byte.
+    Waking(ProcNo),
+    /// Found the own latch at 0, and will store that it may sleep.
+    Announcing(Until),
+    /// Will look at the latch again.
+    Rechecking(Until),
+    /// Will look at the shutdown word.
+    CheckingShutdown,
+    /// Will look at the wake byte.
+    Looking(Until),
+    /// Looked at the wake byte and found it 0, and will look again.
+    Asleep(Until),
+    /// Found the byte at 1, and will store that it may not sleep.
+    Retracting(Until),
+    /// Will swap the byte with 0.
+    Draining(Until),
+    /// Will look at the latch as at first.
+    Repeating(Until),
+    /// Found the latch set at the second look: will store that it may not sleep, and end.
+    LeavingSet,
+    /// Found the shutdown word at 1: will store that it may not sleep, and end.
+    LeavingShutdown,
+    /// Stored the shutdown word, and will store the wake bytes from this backend on.
+    Stopping(u32),
+}
+
+/// A step that was made, and the word that it found.
+pub struct Made {
+    pub step: WaitStep,
+    pub found: u64,
+}
+
+/// What a client's meanings see of a seat. C is the client's own view.
+pub struct PartyView<C> {
+    pub client: C,
+    pub proc: Option<u64>,
+    /// Each barrier that the seat is attached to, with its phase.
+    pub attached: LinkedList<(u32, u64)>,
+    /// Each barrier and phase for which the seat was elected.
+    pub elections: LinkedList<(u32, u64)>,
+}
+
+/// What a seat knows of the table.
+pub struct WaitView<C> {
+    /// Its number, one drawn for a seat to come, those of the seats that were joined into it, and
+    /// the last one that it drew.
+    pub own: Option<u64>,
+    pub pending: Option<u64>,
+    pub taken: LinkedList<u64>,
+    pub drawn: u64,
+    /// Empty where the seat is in no call.
+    pub place: LinkedList<Frame>,
+    /// The steps that it made, but for those of its client.
+    pub steps: LinkedList<Made>,
+    pub client: C,
+    pub attached: LinkedList<(u32, u64)>,
+    pub elections: LinkedList<(u32, u64)>,
+}
+
+/// What a barrier keeps.
+#[derive(Debug, Clone, Copy, PartialEq, Eq, Default)]
+pub struct Record {
+    pub phase: u64,
+    pub participants: u32,
+    pub arrived: u32,
+    pub elected: u64,
+}
+
+/// What a spin word guards: a condition's list, or a barrier's record.
+#[derive(Drop)]
+pub struct Kept {
+    pub list: ArrayVec<u32, 64>,
+    pub record: Record,
+}
