@@ -26,6 +26,10 @@ module _ {C : Type 0} (holds : List ℕ → List (PartyView C) → List ℕ → 
   pub few_views : (s : WaitState C) → Rule holds z phase count s → length (map party_of s.views) ≤ 64
   few_views s r = let a = r.counted in let b = r.roster.few in let c = r.sized.procs in let x = length-map s.views numbers_of in let y = length-map s.views party_of in omega arith
 
+  -- and no more than the seat with the number 0 has drawn, and itself
+  pub few_drawn : (s : WaitState C) → Rule holds z phase count s → (id : ℕ) (v : WaitView C) → get_elem? s.views id ≡ maybe.some v → v.own ≡ Some 0 → length (map party_of s.views) ≤ v.drawn + 1
+  few_drawn s r id v at own = let up = (r.roster.drawer id (numbers_of v) (at_map numbers_of s.views id v at) own).up_to in let a = r.counted in let x = length-map s.views numbers_of in let y = length-map s.views party_of in omega arith
+
   -- a step of the client's f on its word k
   pub client_kept : (s : WaitState C) → Rule holds z phase count s → (id : ℕ) (v : WaitView C) → get_elem? s.views id ≡ maybe.some v → (k : ℕ) (f : ℕ → ℕ) (then : ℕ → C) → k < count
       → ((words : List ℕ) (views : List (PartyView C)) (phases : List ℕ) → holds words views phases → IsStep views phases id (party_of v) → holds (set words k (f (get_or words k 0))) (set views id (with_client (party_of v) (then (get_or words k 0)))) phases)

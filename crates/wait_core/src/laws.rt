@@ -1,5 +1,5 @@
 //! Theorems over states and runs of the machine's definitions. The functions do nothing.
-ghost use Rattle.std.specs.Prelude.{◌≡◌, ◌<◌, ◌≤◌, ◌+◌, ◌∷◌, [], ℕ, List, Some, slice_index, drop};
+ghost use Rattle.std.specs.Prelude.{◌≡◌, ◌<◌, ◌≤◌, ◌+◌, ◌∷◌, [], ℕ, List, Some, slice_index, length, map};
 ghost use mathlib.Core.Option as maybe;
 ghost use lib.ListN.{get_elem?};
 ghost use Rattle.atomic_table.specs.Table.{opening};
@@ -59,6 +59,11 @@ pub fn may_sleep_is_marked<P: Party>(party: &P, size: Size, phase: u64)
 /// A number is that of one seat.
 pub fn one_seat_a_number<P: Party>(party: &P, size: Size, phase: u64)
     ensures { (s : WaitState P.View) (id j p : ℕ) (v u : WaitView P.View) → Rule (P.holds party.now) size phase (P.word_count party.now) s → get_elem? s.views id ≡ maybe.some v → get_elem? s.views j ≡ maybe.some u → v.own ≡ Some p → u.own ≡ Some p → id ≡ j }
+{}
+
+/// There are at most as many views as the seat with the number 0 has drawn, and itself.
+pub fn views_are_few<P: Party>(party: &P, size: Size, phase: u64)
+    ensures { (s : WaitState P.View) (id : ℕ) (v : WaitView P.View) → Rule (P.holds party.now) size phase (P.word_count party.now) s → get_elem? s.views id ≡ maybe.some v → v.own ≡ Some 0 → length (map party_of s.views) ≤ v.drawn + 1 }
 {}
 
 /// A step of the machine leaves the client's words.
