@@ -20,7 +20,7 @@ use Rattle.lw_core.specs.Rule.{Rule, numbers_of}
 use Rattle.lw_core.specs.Runs.{drew_one, stays, comes, both, spent}
 use Rattle.lw_core.specs.Ops.{about, gives, op_of, Owes}
 use Rattle.lw_core.specs.Told.{Sat, Tells, does, looks, draws_one}
-use Rattle.lw_core.proofs.Stretches.{at_seen}
+use Rattle.seat_roster.proofs.Stretches.{at_seen}
 use Rattle.lw_core.proofs.Holders.{grant_below}
 use Rattle.lw_core.proofs.Touches.{on_exchange, hold_here, word_of_lock}
 use Rattle.lw_core.proofs.Counts.{inside_holds}

@@ -13,15 +13,15 @@ use Rattle.lw_core.specs.declared.view.Hold.{Hold}
 use Rattle.lw_core.specs.declared.view.Frame.TheVariants.{Trying}
 use Rattle.lw_core.specs.declared.view.View.{View}
 use Rattle.lw_core.specs.declared.view.Size.{Size}
-use Rattle.lw_core.specs.Totals.{total}
-use Rattle.lw_core.specs.Roster.{count, one_if}
+use Rattle.seat_roster.specs.Totals.{total}
+use Rattle.seat_roster.specs.Roster.{count, one_if}
 use Rattle.lw_core.specs.Words.{state_at, guard_at, grant_of, grant_held, is_free}
 use Rattle.lw_core.specs.Machine.{LwState, outer, not_held, held, hold_in, mode_in, learnt, written, word_of, lock_of, becomes, moved, gripped, next, Allowed, after, HoldsNothing}
 use Rattle.lw_core.specs.CountsHolders.{is_shared, is_exclusive, CountsHolders}
 use Rattle.lw_core.specs.Rule.{numbers_of, EachCountsHolders, Rule}
 use Rattle.lw_core.specs.Runs.{drew_one, stays, comes, both, spent, drawn, split, joined}
-use Rattle.lw_core.proofs.Totals.{total_map, total_sum_le}
-use Rattle.lw_core.proofs.Stretches.{frame, seen, seen_more, at_seen, unseen, for_same}
+use Rattle.seat_roster.proofs.Totals.{total_map, total_sum_le}
+use Rattle.seat_roster.proofs.Stretches.{frame, seen, seen_more, at_seen, unseen, for_same}
 use Rattle.lw_core.proofs.Holders.{one_mode, counts_granted, counts_released, counts_more}
 use Rattle.lw_core.proofs.Touches.{on_exchange, some_mode, hold_here, hold_else, word_of_lock, fresh_hold}
 use Rattle.lw_core.proofs.Places as places

@@ -12,16 +12,16 @@ use Rattle.lw_core.specs.declared.step.LwStep.TheVariants.{Load, Grant, Refuse, 
 use Rattle.lw_core.specs.declared.view.Hold.{Hold}
 use Rattle.lw_core.specs.declared.view.View.{View}
 use Rattle.lw_core.specs.declared.view.Size.{Size}
-use Rattle.lw_core.specs.Totals.{total}
-use Rattle.lw_core.specs.Roster.{count, one_if}
+use Rattle.seat_roster.specs.Totals.{total}
+use Rattle.seat_roster.specs.Roster.{count, one_if}
 use Rattle.lw_core.specs.Words.{state_at, guard_at, guarded, Conflicts}
 use Rattle.lw_core.specs.Machine.{LwState, HoldsNothing, mode_in, hold_in, word_of, becomes, lock_of, Allowed}
 use Rattle.lw_core.specs.CountsHolders.{is_exclusive}
 use Rattle.lw_core.specs.Rule.{Rule, numbers_of}
 use Rattle.lw_core.specs.Promises.{HoldersAgree, UnheldAreLawful, LastHoldsAlone, WordsStand}
-use Rattle.lw_core.proofs.Totals.{total_map, total_none, total_two}
+use Rattle.seat_roster.proofs.Totals.{total_map, total_none, total_two}
 use Rattle.lw_core.proofs.Places.{mine}
-use Rattle.lw_core.proofs.Stretches.{at_seen, map_twice}
+use Rattle.seat_roster.proofs.Stretches.{at_seen, map_twice}
 use Rattle.lw_core.proofs.Holders.{holders_agree}
 use Rattle.lw_core.proofs.Guarding.{lawful_unheld}
 use Rattle.lw_core.proofs.Touches.{guarded_same, guarded_off, some_mode}

@@ -8,12 +8,12 @@ use Rattle.atomic_table.proofs.Lists.{at_set, at_snoc, at_map}
 use Rattle.proc_table.specs.declared.Mode.{Mode}
 use Rattle.proc_table.specs.declared.Mode.TheVariants.{Shared, Exclusive}
 use Rattle.lw_core.specs.declared.view.Hold.{Hold}
-use Rattle.lw_core.specs.Totals.{total}
+use Rattle.seat_roster.specs.Totals.{total}
 use Rattle.lw_core.specs.Machine.{not_held, held, known_at, learnt, written, LeavesLawful}
 use Rattle.lw_core.specs.CountsHolders.{is_shared, is_exclusive, CountsHolders}
 use Rattle.lw_core.specs.GuardedIsLawful.{one_where, writes, Knows, GuardedIsLawful}
 use Rattle.lw_core.specs.Told.{Reads}
-use Rattle.lw_core.proofs.Totals.{total_set, total_snoc, total_at, total_map, total_le, total_gap}
+use Rattle.seat_roster.proofs.Totals.{total_set, total_snoc, total_at, total_map, total_le, total_gap}
 use Rattle.lw_core.proofs.Holders.{alone_holds}
 
 abbrev mode_of : Hold → Option Mode

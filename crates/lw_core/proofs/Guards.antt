@@ -19,7 +19,7 @@ use Rattle.lw_core.specs.GuardedIsLawful.{GuardedIsLawful}
 use Rattle.lw_core.specs.Told.{Reads}
 use Rattle.lw_core.specs.Rule.{EachGuardedIsLawful, Rule}
 use Rattle.lw_core.specs.Runs.{drew_one, stays, comes, both, spent, drawn, split, joined}
-use Rattle.lw_core.proofs.Stretches.{seen, seen_more, at_seen, unseen, for_same, map_twice}
+use Rattle.seat_roster.proofs.Stretches.{seen, seen_more, at_seen, unseen, for_same, map_twice}
 use Rattle.lw_core.proofs.Guarding.{guarded_granted, guarded_released, guarded_learnt, guarded_written, guarded_more, guarded_spent, reads, learnt_here}
 use Rattle.lw_core.proofs.Touches.{on_exchange, some_mode, hold_here, hold_else, word_of_lock, guarded_same, guarded_at, guarded_off, guarded_set, fresh_hold}
 use Rattle.lw_core.proofs.Places as places

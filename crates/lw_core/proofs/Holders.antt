@@ -5,10 +5,10 @@ use mathlib.Core.Option as maybe
 use lib.ListN.{get_elem?}
 use Rattle.proc_table.specs.declared.Mode.{Mode}
 use Rattle.proc_table.specs.declared.Mode.TheVariants.{Shared, Exclusive}
-use Rattle.lw_core.specs.Totals.{total}
+use Rattle.seat_roster.specs.Totals.{total}
 use Rattle.lw_core.specs.Words.{grant_of, is_free, Conflicts}
 use Rattle.lw_core.specs.CountsHolders.{is_shared, is_exclusive, CountsHolders}
-use Rattle.lw_core.proofs.Totals.{total_set, total_snoc, total_at, total_two}
+use Rattle.seat_roster.proofs.Totals.{total_set, total_snoc, total_at, total_two}
 
 abbrev Modes : Type 0
 Modes = List (Option Mode)

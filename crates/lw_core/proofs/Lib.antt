@@ -1,6 +1,3 @@
-pub mod Totals
-pub mod Stretches
-pub mod Numbers
 pub mod Holders
 pub mod Guarding
 pub mod Touches

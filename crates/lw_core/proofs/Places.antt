@@ -18,7 +18,7 @@ use Rattle.lw_core.specs.Machine.{LwState, Place, top, outer, not_held, held, mo
 use Rattle.lw_core.specs.SeatFits.{Seating, HasAttempt, PlaceFits, SeatFits, SeatsFit}
 use Rattle.lw_core.specs.Rule.{seating_of, PlacesFit, Rule}
 use Rattle.lw_core.specs.Runs.{drew_one, stays, comes, both, spent, drawn, split, joined}
-use Rattle.lw_core.proofs.Stretches.{seen, seen_more, at_seen, unseen, for_same}
+use Rattle.seat_roster.proofs.Stretches.{seen, seen_more, at_seen, unseen, for_same}
 use Rattle.lw_core.proofs.Touches.{on_exchange, top_is, fresh_hold}
 
 seats_set : (seats : List Seating) (id : ℕ) (b : Seating) → SeatsFit seats → SeatFits b → SeatsFit (set seats id b)

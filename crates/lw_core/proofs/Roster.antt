@@ -5,12 +5,12 @@ use lib.ListN.{get_elem?}
 use Rattle.lw_core.specs.declared.step.LwStep.{LwStep}
 use Rattle.lw_core.specs.declared.view.View.{View}
 use Rattle.lw_core.specs.declared.view.Size.{Size}
-use Rattle.lw_core.specs.Roster.{Numbers, Roster, numbered, drew, gave, took}
+use Rattle.seat_roster.specs.Roster.{Numbers, Roster, numbered, drew, gave, took}
 use Rattle.lw_core.specs.Machine.{LwState, word_of, becomes, next, Allowed, after}
 use Rattle.lw_core.specs.Rule.{numbers_of, NumbersStand, Rule}
 use Rattle.lw_core.specs.Runs.{drew_one, stays, comes, both, spent, drawn, split, joined}
-use Rattle.lw_core.proofs.Stretches.{frame, seen, seen_more, at_seen, for_same}
-use Rattle.lw_core.proofs.Numbers.{roster_drew, roster_gave, roster_took}
+use Rattle.seat_roster.proofs.Stretches.{frame, seen, seen_more, at_seen, for_same}
+use Rattle.seat_roster.proofs.Numbers.{roster_drew, roster_gave, roster_took}
 use Rattle.lw_core.proofs.Touches.{numbers_kept, word_of_lock}
 
 module _ (lawful : ℕ → List ℕ → Type 0) (z : Size) (s : LwState) (r : Rule lawful z s) (id : ℕ) (v : View) (at : get_elem? s.views id ≡ maybe.some v) where

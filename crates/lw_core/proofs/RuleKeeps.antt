@@ -7,7 +7,7 @@ use Rattle.lw_core.specs.declared.step.LwStep.{LwStep}
 use Rattle.lw_core.specs.declared.view.Hold.{Hold}
 use Rattle.lw_core.specs.declared.view.View.{View}
 use Rattle.lw_core.specs.declared.view.Size.{Size}
-use Rattle.lw_core.specs.Roster.{Roster, numbered}
+use Rattle.seat_roster.specs.Roster.{Roster, numbered}
 use Rattle.lw_core.specs.Words.{Waiters, guard_at, guarded, word_count, Opens}
 use Rattle.lw_core.specs.Machine.{LwState, mode_in, hold_in, fresh, lock_of, word_of, becomes, Allowed, after, HoldsNothing}
 use Rattle.lw_core.specs.CountsHolders.{is_shared, is_exclusive}
@@ -15,7 +15,7 @@ use Rattle.lw_core.specs.GuardedIsLawful.{Knows}
 use Rattle.lw_core.specs.SeatFits.{Seating, SeatFits}
 use Rattle.lw_core.specs.Rule.{Sized, Rule, seating_of}
 use Rattle.lw_core.specs.Runs.{drawn, split, joined, both, Steps, Event, steps, draws, splits, joins, Turns, Run}
-use Rattle.lw_core.proofs.Numbers.{roster_first}
+use Rattle.seat_roster.proofs.Numbers.{roster_first}
 use Rattle.lw_core.proofs.Touches.{fresh_hold}
 use Rattle.lw_core.proofs.Moves.{there}
 use Rattle.lw_core.proofs.Guarding.{knows_not_held}

@@ -13,7 +13,7 @@ use Rattle.lw_core.specs.declared.view.View.{View}
 use Rattle.lw_core.specs.Machine.{not_held, held, hold_in, mode_in, learnt, written, outer, moved, gripped, lock_of, next}
 use Rattle.lw_core.specs.Ops.{mode_then}
 use Rattle.lw_core.proofs.Touches.{on_exchange, numbers_kept}
-use Rattle.lw_core.specs.Roster.{Numbers}
+use Rattle.seat_roster.specs.Roster.{Numbers}
 use Rattle.lw_core.specs.Words.{Waiters}
 use Rattle.lw_core.specs.Seats.{mode_of_hold, IsSeated}
 use Rattle.atomic_table.specs.declared.shared.Seat.{Seat}

@@ -3,7 +3,7 @@ use Rattle.std.specs.Prelude.{◌≡◌, ℕ, ◌<◌, ◌≤◌, Bool, true, fa
 use mathlib.Core.Option as maybe
 use lib.ListN.{get_elem?}
 use Rattle.lw_core.specs.declared.view.Hold.{Hold}
-use Rattle.lw_core.specs.Totals.{total}
+use Rattle.seat_roster.specs.Totals.{total}
 use Rattle.lw_core.specs.Machine.{known_at}
 use Rattle.lw_core.specs.CountsHolders.{is_exclusive}
 

@@ -1,5 +1,3 @@
-pub mod Totals
-pub mod Roster
 pub mod Words
 pub mod Machine
 pub mod CountsHolders

@@ -2,7 +2,7 @@
 use Rattle.std.specs.Prelude.{◌≡◌, ℕ, ◌<◌, ◌≤◌, List, map, length, slice_index}
 use Rattle.lw_core.specs.declared.view.Size.{Size}
 use Rattle.lw_core.specs.declared.view.View.{View}
-use Rattle.lw_core.specs.Roster.{Numbers, Roster}
+use Rattle.seat_roster.specs.Roster.{Numbers, Roster}
 use Rattle.lw_core.specs.Words.{state_at, guarded, word_count}
 use Rattle.lw_core.specs.Machine.{LwState, mode_in, hold_in}
 use Rattle.lw_core.specs.CountsHolders.{CountsHolders}

@@ -6,7 +6,7 @@ use Rattle.atomic_table.specs.Table.{keeps, stepped}
 use Rattle.lw_core.specs.declared.step.LwStep.{LwStep}
 use Rattle.lw_core.specs.declared.view.View.{View}
 use Rattle.lw_core.specs.declared.view.Size.{Size}
-use Rattle.lw_core.specs.Roster.{listed}
+use Rattle.seat_roster.specs.Roster.{listed}
 use Rattle.lw_core.specs.Machine.{LwState, HoldsNothing, lock_of, Allowed, after, fresh}
 
 -- the view of a seat that draws the next number; what stays of it when that number goes to a new seat; and the view of the new seat

@@ -3,7 +3,7 @@ use Rattle.std.specs.Prelude.{◌≡◌, ℕ, ◌+◌, ◌-◌, ◌<◌, List, l
 use Rattle.wait_core.specs.declared.party.ClientOp.{ClientOp}
 use Rattle.wait_core.specs.declared.party.ClientOp.TheVariants.{Add}
 use Rattle.wait_core.specs.declared.view.PartyView.{PartyView}
-use Rattle.wait_core.specs.Totals.{total}
+use Rattle.seat_roster.specs.Totals.{total}
 use Rattle.two_words.specs.declared.Turn.{Turn}
 use Rattle.two_words.specs.declared.Turn.TheVariants.{First, Second}
 use Rattle.two_words.specs.declared.Progress.{Progress}

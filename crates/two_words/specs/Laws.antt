@@ -9,8 +9,8 @@ use Rattle.wait_core.specs.declared.view.PartyView.{PartyView}
 use Rattle.two_words.specs.declared.Turn.{Turn}
 use Rattle.two_words.specs.declared.Turn.TheVariants.{First, Second}
 use Rattle.two_words.specs.declared.Progress.{Progress}
-use Rattle.wait_core.specs.Totals.{total}
-use Rattle.wait_core.proofs.Totals.{total_set, total_snoc, total_at}
+use Rattle.seat_roster.specs.Totals.{total}
+use Rattle.seat_roster.proofs.Totals.{total_set, total_snoc, total_at}
 use Rattle.two_words.specs.Balance.{progress, turn_op, may_turn, turned, added, left_of, between_of, done_of, Balanced}
 
 abbrev V : Type 0

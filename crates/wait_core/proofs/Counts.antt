@@ -5,11 +5,11 @@ use mathlib.Core.Option as maybe
 use native.Mathlib.Decide.{ℕ_discrete}
 use lib.ListN.{get_elem?}
 use Rattle.wait_core.specs.declared.view.Frame.{Frame}
-use Rattle.wait_core.specs.Totals.{total}
+use Rattle.seat_roster.specs.Totals.{total}
 use Rattle.wait_core.specs.Machine.{top, bit}
 use Rattle.wait_core.specs.Seating.{Standing}
 use Rattle.wait_core.specs.Places.{stands_for, of_backend, of_any, backend_count, count_of}
-use Rattle.wait_core.proofs.Totals.{total_set, total_at, total_le, total_gap}
+use Rattle.seat_roster.proofs.Totals.{total_set, total_at, total_le, total_gap}
 
 -- 1 where the seat has the number p
 abbrev pub owns : ℕ → Standing → ℕ

@@ -1,6 +1,3 @@
-pub mod Totals
-pub mod Stretches
-pub mod Roster
 pub mod Effects
 pub mod Counts
 pub mod MaySleepIsMarked

@@ -8,7 +8,7 @@ use lib.Seq.{set-get_or}
 use Rattle.wait_core.specs.declared.step.WaitStep.{WaitStep}
 use Rattle.wait_core.specs.declared.step.WaitStep.TheVariants.{Sload, Sset, Reset, Mstore, Mload, Byte, Look, Drain, Shload, Shstore}
 use Rattle.wait_core.specs.declared.view.Size.{Size}
-use Rattle.wait_core.specs.Totals.{total}
+use Rattle.seat_roster.specs.Totals.{total}
 use Rattle.wait_core.specs.Words.{set_at, may_at, byte_at, shut_at}
 use Rattle.wait_core.specs.Machine.{top, bit, word_of, becomes}
 use Rattle.wait_core.specs.Seating.{Standing}

@@ -15,7 +15,7 @@ use Rattle.wait_core.specs.Parties.{newcomer}
 use Rattle.wait_core.specs.Seating.{Standing, fresh}
 use Rattle.wait_core.specs.Places.{may_sleep, past_latch, past_shutdown, backend_count, PlacesFit, IsNested}
 use Rattle.wait_core.specs.Rule.{Rule}
-use Rattle.wait_core.proofs.Roster.{roster_first}
+use Rattle.seat_roster.proofs.Numbers.{roster_first}
 use Rattle.wait_core.proofs.Untouched.{idle_backend}
 
 pub length-opened : (f : ℕ → ℕ) (n : ℕ) → length (opened f n) ≡ n
@@ -57,7 +57,7 @@ module _ {C : Type 0} (holds : List ℕ → List (PartyView C) → List ℕ → 
   opens xs some most kept = record {
     sized = record { procs = (some, most); long = length-opening };
     flags = λ i above below. let a = zero_at i above below in omega arith;
-    roster = subst (λ (n : ℕ). Rattle.wait_core.specs.Roster.Roster z.procs n (Rattle.wait_core.specs.Roster.numbered (Some 0) ∷ [])) (sym one_at) (roster_first z.procs some);
+    roster = subst (λ (n : ℕ). Rattle.seat_roster.specs.Roster.Roster z.procs n (Rattle.seat_roster.specs.Roster.numbered (Some 0) ∷ [])) (sym one_at) (roster_first z.procs some);
     counted = let a = one_at in omega arith;
     places = first_place;
     may = λ p below. zero_at (may_at p) (omega arith) (omega arith) ∙ sym (none_there p may_sleep refl);

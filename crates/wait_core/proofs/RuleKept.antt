@@ -14,16 +14,16 @@ use Rattle.wait_core.specs.declared.step.Call.TheVariants as call
 use Rattle.wait_core.specs.declared.view.PartyView.{PartyView}
 use Rattle.wait_core.specs.declared.view.Size.{Size}
 use Rattle.wait_core.specs.declared.view.WaitView.{WaitView}
-use Rattle.wait_core.specs.Totals.{total}
-use Rattle.wait_core.specs.Roster.{Numbers, Roster, times_in, stands}
+use Rattle.seat_roster.specs.Totals.{total}
+use Rattle.seat_roster.specs.Roster.{Numbers, Roster, times_in, stands}
 use Rattle.wait_core.specs.Words.{byte_at, client_base, phases}
 use Rattle.wait_core.specs.Machine.{WaitState, Place, number_of, word_of, becomes, next, Permits, Allowed, after}
 use Rattle.wait_core.specs.Seating.{Standing, numbers_of, standing_of, party_of}
 use Rattle.wait_core.specs.Places.{PlacesFit, IsNested}
 use Rattle.wait_core.specs.Rule.{Flags, Sized, Rule}
-use Rattle.wait_core.proofs.Totals.{total_map, total_le}
-use Rattle.wait_core.proofs.Stretches.{unseen}
-use Rattle.wait_core.proofs.Roster.{most_one, own_inside}
+use Rattle.seat_roster.proofs.Totals.{total_map, total_le}
+use Rattle.seat_roster.proofs.Stretches.{unseen}
+use Rattle.seat_roster.proofs.Numbers.{most_one, own_inside}
 use Rattle.wait_core.proofs.Counts.{owns, bit_le}
 use Rattle.wait_core.proofs.Effects.{effect}
 use Rattle.wait_core.proofs.Nesting.{nested_after}

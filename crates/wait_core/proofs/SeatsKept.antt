@@ -10,15 +10,15 @@ use Rattle.atomic_table.proofs.Lists.{at_map, set_else}
 use Rattle.wait_core.specs.declared.view.PartyView.{PartyView}
 use Rattle.wait_core.specs.declared.view.Size.{Size}
 use Rattle.wait_core.specs.declared.view.WaitView.{WaitView}
-use Rattle.wait_core.specs.Roster.{Numbers, Roster, numbered, one_if, drew, gave, took}
+use Rattle.seat_roster.specs.Roster.{Numbers, Roster, numbered, one_if, drew, gave, took}
 use Rattle.wait_core.specs.Words.{client_base, phases}
 use Rattle.wait_core.specs.Machine.{WaitState}
 use Rattle.wait_core.specs.Parties.{with_client, newcomer, joined, left_over, IsStep, IsDraw, IsJoin}
 use Rattle.wait_core.specs.Seating.{Standing, numbers_of, standing_of, party_of, client_moved, with_drawn, stays, comes, took_in, spent_view}
 use Rattle.wait_core.specs.Rule.{SeatsAreCounted, Rule}
-use Rattle.wait_core.proofs.Totals.{total_set, total_snoc, total_at}
-use Rattle.wait_core.proofs.Stretches.{unseen}
-use Rattle.wait_core.proofs.Roster.{roster_drawn, roster_split, roster_join, pending_inside}
+use Rattle.seat_roster.proofs.Totals.{total_set, total_snoc, total_at}
+use Rattle.seat_roster.proofs.Stretches.{unseen}
+use Rattle.seat_roster.proofs.Numbers.{roster_drew, roster_gave, roster_took, pending_inside}
 use Rattle.wait_core.proofs.Untouched.{Agree, SameCounts, counts_are, counts_snoc, counts_idle, flags_same, may_same, latches_same, shutdown_same, places_snoc, places_idle}
 
 module _ {C : Type 0} (holds : List ℕ → List (PartyView C) → List ℕ → Type 0) (z : Size) (phase count : ℕ) where
@@ -69,7 +69,7 @@ module _ {C : Type 0} (holds : List ℕ → List (PartyView C) → List ℕ → 
       record {
         sized = record { procs = r.sized.procs; long = length-set s.words 0 x ∙ long };
         flags = flags_same z s.words (set s.words 0 x) (map standing_of s.views) (map standing_of (set s.views id w)) agree same r.flags;
-        roster = subst (λ (y : ℕ × List Numbers). Roster z.procs y.0 y.1) (λ j. (sym first j, numbers j)) (roster_drawn z.procs next ns id (numbers_of v) r.roster at' own free (omega arith));
+        roster = subst (λ (y : ℕ × List Numbers). Roster z.procs y.0 y.1) (λ j. (sym first j, numbers j)) (roster_drew z.procs next ns r.roster id (numbers_of v) at' own free (omega arith));
         counted = subst (λ (y : ℕ × List Numbers). SeatsAreCounted y.0 y.1) (λ j. (sym first j, numbers j))
             (let sum = total_set (λ (u : Numbers). one_if u.pending) ns id (numbers_of v) (drew (numbers_of v)) at' in let none : one_if v.pending ≡ 0 = ap one_if free in let c = r.counted in let d = length-set ns id (drew (numbers_of v)) in omega arith);
         places = subst Rattle.wait_core.specs.Places.PlacesFit (sym (unseen standing_of s.views id v w at refl)) r.places;
@@ -96,7 +96,7 @@ module _ {C : Type 0} (holds : List ℕ → List (PartyView C) → List ℕ → 
       record {
         sized = r.sized;
         flags = r.flags;
-        roster = subst (Roster z.procs (get_or s.words 0 0)) numbers (roster_split z.procs (get_or s.words 0 0) ns id (numbers_of v) r.roster at');
+        roster = subst (Roster z.procs (get_or s.words 0 0)) numbers (roster_gave z.procs (get_or s.words 0 0) ns r.roster id (numbers_of v) at');
         counted = subst (SeatsAreCounted (get_or s.words 0 0)) numbers
             (let a = total_set (λ (u : Numbers). one_if u.pending) ns id (numbers_of v) (gave (numbers_of v)) at' in let b = total_snoc (λ (u : Numbers). one_if u.pending) (set ns id (gave (numbers_of v))) (numbered v.pending) in
             let d = length-set ns id (gave (numbers_of v)) in let e = length-append (set ns id (gave (numbers_of v))) (numbered v.pending ∷ []) in omega arith);
@@ -128,7 +128,7 @@ module _ {C : Type 0} (holds : List ℕ → List (PartyView C) → List ℕ → 
       record {
         sized = r.sized;
         flags = r.flags;
-        roster = subst (Roster z.procs (get_or s.words 0 0)) numbers (roster_join z.procs (get_or s.words 0 0) ns id (numbers_of v) other (numbers_of w) r.roster at' there_n none);
+        roster = subst (Roster z.procs (get_or s.words 0 0)) numbers (roster_took z.procs (get_or s.words 0 0) ns r.roster id other (numbers_of v) (numbers_of w) at' there_n none);
         counted = subst (SeatsAreCounted (get_or s.words 0 0)) numbers
             (let f : Numbers → ℕ = λ u. one_if u.pending in let a = total_set f ns id (numbers_of v) (took (numbers_of v) (numbers_of w)) at' in let b = total_set f (set ns id (took (numbers_of v) (numbers_of w))) other (numbers_of w) (numbered None) there_n in
             let d = length-set ns id (took (numbers_of v) (numbers_of w)) in let e = length-set (set ns id (took (numbers_of v) (numbers_of w))) other (numbered None) in let gone : one_if w.pending ≡ 0 = ap one_if none in let all = r.counted in omega arith);

@@ -9,7 +9,7 @@ use lib.Seq.{set-get_or}
 use Rattle.wait_core.specs.declared.step.WaitStep.{WaitStep}
 use Rattle.wait_core.specs.declared.step.WaitStep.TheVariants.{Sload, Sset, Reset, Mstore, Mload, Byte, Look, Drain, Shload, Shstore}
 use Rattle.wait_core.specs.declared.view.Size.{Size}
-use Rattle.wait_core.specs.Totals.{total}
+use Rattle.seat_roster.specs.Totals.{total}
 use Rattle.wait_core.specs.Words.{set_at, may_at, byte_at, shut_at, client_base}
 use Rattle.wait_core.specs.Machine.{Place, top, bit, word_of, becomes, place_after, Permits}
 use Rattle.wait_core.specs.Seating.{Standing}

@@ -15,7 +15,7 @@ use Rattle.wait_core.specs.Places.{may_sleep, past_latch, past_shutdown, is_asle
 use Rattle.wait_core.specs.Rule.{Rule}
 use Rattle.wait_core.specs.Wakes.{IsAsleep, SleepsTillShutdown, LatchWakePending, ShutdownWakePending}
 use Rattle.wait_core.proofs.Counts.{backend_is}
-use Rattle.wait_core.proofs.Roster.{one_seat}
+use Rattle.seat_roster.proofs.Numbers.{one_seat}
 use Rattle.wait_core.proofs.RuleKept.{alone, own_below}
 
 sleeps_past_latch : (t : Option Frame) → is_asleep t ≡ true → past_latch t ≡ true

@@ -13,7 +13,7 @@ use Rattle.wait_core.specs.MaySleepIsMarked.{MaySleepIsMarked}
 use Rattle.wait_core.specs.SetLatchWakes.{SetLatchWakes}
 use Rattle.wait_core.specs.ShutdownWakes.{ShutdownWakes}
 use Rattle.wait_core.specs.Rule.{Flags}
-use Rattle.wait_core.proofs.Totals.{total_set, total_snoc}
+use Rattle.seat_roster.proofs.Totals.{total_set, total_snoc}
 
 -- the words of backends and the shutdown word are the same
 abbrev pub Agree : Size → List ℕ → List ℕ → Type 0

@@ -8,7 +8,7 @@ use Rattle.wait_core.specs.declared.view.Frame.{Frame}
 use Rattle.wait_core.specs.declared.view.Frame.TheVariants.{Telling, Waking, Rechecking, CheckingShutdown, Looking, Asleep, Retracting, LeavingSet, LeavingShutdown, Stopping}
 use Rattle.wait_core.specs.Machine.{Place, top, bit}
 use Rattle.wait_core.specs.Seating.{Standing}
-use Rattle.wait_core.specs.Totals.{total}
+use Rattle.seat_roster.specs.Totals.{total}
 
 -- it stored that it may sleep, and not yet that it may not
 abbrev pub may_sleep : Option Frame → Bool

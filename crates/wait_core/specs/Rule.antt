@@ -2,8 +2,8 @@
 use Rattle.std.specs.Prelude.{◌≡◌, ℕ, ◌+◌, ◌<◌, ◌≤◌, List, map, length, slice_index}
 use Rattle.wait_core.specs.declared.view.PartyView.{PartyView}
 use Rattle.wait_core.specs.declared.view.Size.{Size}
-use Rattle.wait_core.specs.Totals.{total}
-use Rattle.wait_core.specs.Roster.{Numbers, Roster, one_if}
+use Rattle.seat_roster.specs.Totals.{total}
+use Rattle.seat_roster.specs.Roster.{Numbers, Roster, one_if}
 use Rattle.wait_core.specs.Words.{client_base}
 use Rattle.wait_core.specs.Machine.{WaitState}
 use Rattle.wait_core.specs.Seating.{numbers_of, standing_of, party_of}

@@ -2,7 +2,7 @@
 use Rattle.std.specs.Prelude.{◌+◌, ◌++◌, [], ℕ, Option, None, Some}
 use Rattle.wait_core.specs.declared.view.PartyView.{PartyView}
 use Rattle.wait_core.specs.declared.view.WaitView.{WaitView}
-use Rattle.wait_core.specs.Roster.{Numbers, listed}
+use Rattle.seat_roster.specs.Roster.{Numbers, listed}
 use Rattle.wait_core.specs.Machine.{Place}
 
 -- a seat's number, and where it stands

@@ -1,7 +1,7 @@
 use Rattle.std.proofs.Common.{◌<◌, slice_index, ℕ, List, ap, sym, subst, ◌∙◌, arith}
 use Rattle.std.specs.Slots.{slots_items}
 use Rattle.lw_core.specs.Words.{state_at}
-use Rattle.lw_core.proofs.Stretches.{index_at}
+use Rattle.seat_roster.proofs.Stretches.{index_at}
 use Rattle.lw_core.proofs.closed.LwClosed.state.Goals as goal
 
 pub overflow_cast-result : goal.overflow_cast-result

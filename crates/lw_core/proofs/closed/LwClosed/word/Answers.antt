@@ -1,7 +1,7 @@
 use Rattle.std.proofs.Common.{slice_index, ℕ, List, ap, sym, ◌∙◌}
 use Rattle.std.specs.Slots.{slots_items}
 use Rattle.lw_core.specs.Words.{guard_at}
-use Rattle.lw_core.proofs.Stretches.{index_at}
+use Rattle.seat_roster.proofs.Stretches.{index_at}
 use Rattle.lw_core.proofs.closed.LwClosed.word.Goals as goal
 
 pub returns : goal.returns

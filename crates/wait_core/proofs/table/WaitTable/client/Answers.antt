@@ -3,7 +3,7 @@ use Rattle.wait_core.specs.Ops.{op_at, op_gives}
 use Rattle.wait_core.specs.Words.{client_base}
 use Rattle.wait_core.specs.Seating.{party_of}
 use Rattle.wait_core.specs.Told.{does_client, Turns}
-use Rattle.wait_core.proofs.Stretches.{for_same}
+use Rattle.seat_roster.proofs.Stretches.{for_same}
 use Rattle.wait_core.proofs.Asks.{client_turns}
 use Rattle.wait_core.proofs.table.WaitTable.client.Goals as goal
 

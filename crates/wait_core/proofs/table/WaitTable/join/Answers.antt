@@ -1,7 +1,7 @@
 use Rattle.std.proofs.Common.{rules, arith, ap, ◌∙◌}
 use Rattle.wait_core.specs.Seating.{took_in, spent_view}
 use Rattle.wait_core.specs.Told.{Glues}
-use Rattle.wait_core.proofs.Stretches.{for_same}
+use Rattle.seat_roster.proofs.Stretches.{for_same}
 use Rattle.wait_core.proofs.Asks.{glues_allowed}
 use Rattle.wait_core.proofs.table.WaitTable.join.Goals as goal
 

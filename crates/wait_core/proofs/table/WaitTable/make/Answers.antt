@@ -2,7 +2,7 @@ use Rattle.std.proofs.Common.{◌<◌, ap, sym, ◌∙◌, subst}
 use Rattle.wait_core.specs.declared.party.ClientOp.TheVariants.{Load, Store, Add, Or, Change}
 use Rattle.wait_core.specs.Ops.{op_gives}
 use Rattle.wait_core.specs.Told.{Turns}
-use Rattle.wait_core.proofs.Stretches.{for_same}
+use Rattle.seat_roster.proofs.Stretches.{for_same}
 use Rattle.wait_core.proofs.Asks.{turned}
 use Rattle.wait_core.proofs.table.WaitTable.make.Goals as goal
 

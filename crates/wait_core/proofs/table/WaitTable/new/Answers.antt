@@ -5,7 +5,7 @@ use Rattle.wait_core.specs.Words.{opened, phases}
 use Rattle.wait_core.specs.Parties.{newcomer}
 use Rattle.wait_core.specs.Rule.{Rule}
 use Rattle.wait_core.specs.Seating.{fresh}
-use Rattle.wait_core.proofs.Stretches.{for_same}
+use Rattle.seat_roster.proofs.Stretches.{for_same}
 use Rattle.wait_core.proofs.Openings.{opens, length-opening}
 use Rattle.wait_core.proofs.table.WaitTable.new.Goals as goal
 

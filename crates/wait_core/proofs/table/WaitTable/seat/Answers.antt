@@ -2,7 +2,7 @@ use Rattle.std.proofs.Common.{rules, ◌+◌, ◌%◌, ◌^◌, arith, ap, ◌�
 use Rattle.atomic_table.specs.Table.{step}
 use mathlib.Core.Option.{none}
 use Rattle.wait_core.specs.Told.{Turns, looks, draws}
-use Rattle.wait_core.proofs.Stretches.{for_same}
+use Rattle.seat_roster.proofs.Stretches.{for_same}
 use Rattle.wait_core.proofs.Asks.{looks_allowed, draws_allowed, cuts_allowed}
 use Rattle.wait_core.proofs.table.WaitTable.seat.Goals as goal
 

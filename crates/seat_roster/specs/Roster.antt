@@ -2,7 +2,7 @@
 use Rattle.std.specs.Prelude.{◌≡◌, ◌⊎◌, ℕ, ◌+◌, ◌≤◌, ◌==◌, nat_lt, cond, List, [], ◌∷◌, ◌++◌, length, Option, None, Some}
 use mathlib.Core.Option as maybe
 use lib.ListN.{get_elem?}
-use Rattle.lw_core.specs.Totals.{total}
+use Rattle.seat_roster.specs.Totals.{total}
 
 -- the numbers that a seat stands for: its own, one drawn for a seat that isn't split off yet, and those taken over from seats that were joined into it; and the last number that it drew
 pub record Numbers : Type 0 where

@@ -6,14 +6,25 @@ use mathlib.Core.Option as maybe
 use native.Mathlib.Decide.{ℕ_discrete}
 use lib.ListN.{get_elem?}
 use Rattle.atomic_table.proofs.Lists.{at_set, at_snoc}
-use Rattle.lw_core.specs.Roster.{Numbers, IsDrawer, Roster, one_if, count, times_in, times, stands, once_below, numbered, drew, gave, listed, took}
-use Rattle.lw_core.proofs.Totals.{total_set, total_snoc, total_two}
+use Rattle.seat_roster.specs.Totals.{total}
+use Rattle.seat_roster.specs.Roster.{Numbers, IsDrawer, Roster, one_if, count, times_in, times, stands, once_below, numbered, drew, gave, listed, took}
+use Rattle.seat_roster.proofs.Totals.{total_set, total_snoc, total_at, total_two}
 
 once_most : (x n : ℕ) → once_below x n ≤ 1
 once_most x n = grind (arith, nat_tests)
 
 once_more : (x n : ℕ) → once_below x (n + 1) ≡ once_below x n + times_in x (Some n)
 once_more x n = grind (arith, nat_tests)
+
+once_inside : (x n : ℕ) → 1 ≤ once_below x n → x < n
+once_inside x n h = grind (arith, nat_tests)
+
+-- a seat stands for its own number, and for the one that is to go to a new seat
+stands_own : (p : ℕ) (v : Numbers) → v.own ≡ Some p → 1 ≤ stands p v
+stands_own p v own = let a : times_in p v.own ≡ 1 = ap (times_in p) own ∙ ap (λ b. cond b 1 0) (eq-eqb p p refl) in omega arith
+
+stands_pending : (p : ℕ) (v : Numbers) → v.pending ≡ Some p → 1 ≤ stands p v
+stands_pending p v is = let a : times_in p v.pending ≡ 1 = ap (times_in p) is ∙ ap (λ b. cond b 1 0) (eq-eqb p p refl) in omega arith
 
 -- a number is that of one seat
 pub one_seat : (procs next : ℕ) (seats : List Numbers) (r : Roster procs next seats) (i j p : ℕ) (v u : Numbers) → get_elem? seats i ≡ maybe.some v → get_elem? seats j ≡ maybe.some u → v.own ≡ Some p → u.own ≡ Some p → i ≡ j
@@ -35,6 +46,19 @@ length_listed None xs ys = length-append xs ys ∙ omega arith
 length_listed (Some n) xs ys = length-append xs (n ∷ ys) ∙ omega arith
 
 module _ (procs next : ℕ) (seats : List Numbers) (r : Roster procs next seats) where
+  pub most_one : (p : ℕ) → total (stands p) seats ≤ 1
+  most_one p = let a = r.once p in let b = once_most p next in omega arith
+
+  inside_of : (i p : ℕ) (v : Numbers) → get_elem? seats i ≡ maybe.some v → 1 ≤ stands p v → p < next
+  inside_of i p v at one = once_inside p next (let a = total_at (stands p) seats i v at in let b = r.once p in omega arith)
+
+  -- a number that stands in a seat was drawn
+  pub own_inside : (i p : ℕ) (v : Numbers) → get_elem? seats i ≡ maybe.some v → v.own ≡ Some p → p < next
+  own_inside i p v at own = inside_of i p v at (stands_own p v own)
+
+  pub pending_inside : (i p : ℕ) (v : Numbers) → get_elem? seats i ≡ maybe.some v → v.pending ≡ Some p → p < next
+  pending_inside i p v at is = inside_of i p v at (stands_pending p v is)
+
   pub roster_drew : (id : ℕ) (v : Numbers) → get_elem? seats id ≡ maybe.some v → v.own ≡ Some 0 → v.pending ≡ None → v.drawn + 1 < procs → Roster procs (next + 1) (set seats id (drew v))
   roster_drew id v at zero_is free more = let mine = r.drawer id v at zero_is in let up = mine.up_to in record {
     once = λ x. let sum = total_set (stands x) seats id v (drew v) at in let all = r.once x in let one = once_more x next in
