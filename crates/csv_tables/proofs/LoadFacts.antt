@@ -4,7 +4,7 @@ use Rattle.row_model.specs.Table.{Table}
 use Rattle.row_model.specs.declared.RowFault.{RowFault}
 use Rattle.row_model.specs.declared.RecordFault.{RecordFault}
 use Rattle.row_model.specs.declared.RecordFault.TheVariants as cause
-use Rattle.row_model.specs.Form.{or_else, form_fault, table_of}
+use Rattle.row_model.specs.Form.{form_fault}
 use Rattle.row_model.specs.Layout.{Building, Finishes}
 use Rattle.csv_tables.specs.Records.{records_of}
 use Rattle.csv_tables.specs.Loading.{LoadsText}

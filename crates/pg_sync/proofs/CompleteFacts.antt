@@ -1,11 +1,10 @@
 -- Where no fault rose before it, the bytes decide the answer, or memory ran out.
-use Rattle.std.proofs.Common.{◌≡◌, ◌∙◌, ◌⊎◌, ℕ, ◌<◌, ◌≤◌, Bool, true, false, cond, ltb, List, length, Option, Some, None, option_map, refl, inl, inr}
+use Rattle.std.proofs.Common.{◌≡◌, ◌⊎◌, ℕ, ◌<◌, Bool, true, false, cond, ltb, List, length, Option, Some, None, option_map, refl, inl, inr}
 use Rattle.std.specs.Option.{IfSome}
 use Rattle.std.proofs.lemmas.Bool.{le-ltb, lt-ltb}
 use Rattle.row_model.specs.declared.RowFault.{RowFault}
 use Rattle.row_model.specs.declared.Side.TheVariants as side
 use Rattle.row_model.specs.Form.{form_fault}
-use Rattle.csv_tables.specs.Faults.{Rose}
 use Rattle.csv_tables.specs.Loading.{input_limit}
 use Rattle.csv_tables.specs.Records.{records_of}
 use Rattle.pg_sync.specs.declared.status.Status.{Status}

@@ -3,7 +3,6 @@ use Rattle.std.specs.Prelude.{◌≡◌, ◌⊎◌, ◌++◌, ℕ, List, [], Opt
 use Rattle.std.specs.Io.KnownBytes.{Appends}
 use Rattle.row_model.specs.declared.Side.{Side}
 use Rattle.row_model.specs.declared.Side.TheVariants as side
-use Rattle.row_model.specs.declared.RowFault.{RowFault}
 use Rattle.row_model.specs.declared.RowFault.TheVariants as fault
 use Rattle.csv_tables.specs.Faults.{Rose}
 use Rattle.csv_tables.specs.Appending.{AppendsPart}

@@ -1,5 +1,5 @@
 -- Laws of a builder of rows, over plain lists.
-use Rattle.std.proofs.Common.{◌≡◌, ◌≢◌, ◌∙◌, ℕ, zero, suc, ◌+◌, ◌-◌, ◌*◌, ◌^◌, ◌<◌, ◌≤◌, Bool, true, false, List, [], ◌∷◌, ◌++◌, length, take, drop, get_or, Option, Some, None, refl, sym, ap, subst, arith, cond, eqb, inl, inr}
+use Rattle.std.proofs.Common.{◌≡◌, ◌≢◌, ◌∙◌, ℕ, zero, suc, ◌+◌, ◌-◌, ◌*◌, ◌^◌, ◌<◌, ◌≤◌, List, [], ◌∷◌, ◌++◌, length, take, drop, Option, Some, None, refl, sym, ap, arith, inl, inr}
 use Rattle.std.proofs.Math.Nat.{mul-le-mul_right, mul-le-mul_left}
 use Rattle.std.proofs.lemmas.Bool.{eq-eqb, ne_eqb}
 use Rattle.std.proofs.lemmas.Bool.Decides.{eqb_tells}
@@ -8,7 +8,7 @@ use Rattle.row_model.specs.declared.RowFault.{RowFault}
 use Rattle.row_model.specs.declared.RowFault.TheVariants as fault
 use Rattle.row_model.specs.Table.{Table}
 use Rattle.row_model.specs.Form.{or_else, header_fault, rows_fault, fault_so_far, form_fault, table_of, column_of}
-use Rattle.row_model.specs.Layout.{Building, fields_from, fields_of, Rising, rows_of, ended, refusal_at, refusal_of}
+use Rattle.row_model.specs.Layout.{fields_from, fields_of, Rising, rows_of, ended, refusal_at, refusal_of}
 use Rattle.row_model.specs.BuilderLayout.{building, IsBuilding}
 use Rattle.row_model.proofs.LayoutFacts.{rising-push, fields_from-push, length-fields_from, rows_of-append, rows_of-more, length-rows_of}
 

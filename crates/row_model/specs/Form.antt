@@ -1,5 +1,5 @@
 -- Which lists of records are a table with a key, and the first fault of one that isn't.
-use Rattle.std.specs.Prelude.{◌≡◌, ◌==◌, ◌+◌, Bool, ℕ, List, [], ◌∷◌, length, Option, Some, None, count_by, if◌then◌else◌, unwrap_or}
+use Rattle.std.specs.Prelude.{◌==◌, ◌+◌, Bool, ℕ, List, [], ◌∷◌, length, Option, Some, None, count_by, if◌then◌else◌}
 use Rattle.std.specs.List.{position_or_len}
 use Rattle.std.specs.Str.{bytes_eq}
 use Rattle.row_model.specs.declared.RowFault.{RowFault}

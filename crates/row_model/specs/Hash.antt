@@ -1,6 +1,6 @@
 -- FNV-1a of 32 bits, and the hash of a key.
 use Rattle.std.specs.Prelude.{◌*◌, ◌%◌, ◌^◌, ℕ, List, fold, bit_xor, Option, Some, None, if◌then◌else◌}
-use Rattle.row_model.specs.Table.{Table, key_of, is_present}
+use Rattle.row_model.specs.Table.{is_present}
 
 -- one byte more
 abbrev pub fnv1a_step : ℕ → ℕ → ℕ

@@ -1,5 +1,5 @@
 -- How fields lie in one text of bytes, by the place where each ends, and rows in the fields.
-use Rattle.std.specs.Prelude.{◌≡◌, ◌+◌, ◌-◌, ◌*◌, ◌<◌, ◌≤◌, ℕ, zero, suc, List, [], ◌∷◌, length, take, drop, get_or, ◌++◌, Option, Some, None, Result, Ok, Err}
+use Rattle.std.specs.Prelude.{◌≡◌, ◌-◌, ◌≤◌, ℕ, zero, suc, List, [], ◌∷◌, take, drop, ◌++◌, Option, Some, None, Result, Ok, Err}
 use Rattle.row_model.specs.declared.RecordFault.{RecordFault}
 use Rattle.row_model.specs.declared.RecordFault.TheVariants as cause
 use Rattle.row_model.specs.declared.RowFault.{RowFault}

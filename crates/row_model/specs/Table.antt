@@ -1,5 +1,5 @@
 -- Tables of fields of bytes, their keys, and the join of two tables by two nested loops.
-use Rattle.std.specs.Prelude.{◌≡◌, ◌<◌, ◌&&◌, Bool, not, ℕ, List, [], length, map, filter, get_or}
+use Rattle.std.specs.Prelude.{◌&&◌, Bool, not, ℕ, List, [], length, map, filter, get_or}
 use Rattle.std.specs.List.{flat_map, range_with_len}
 use Rattle.std.specs.Str.{bytes_eq}
 use Rattle.row_model.specs.declared.Pair.{Pair}

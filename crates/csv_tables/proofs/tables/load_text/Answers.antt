@@ -7,7 +7,6 @@ use Rattle.csv.specs.declared.parser.State.TheVariants as st
 use Rattle.csv.proofs.ReadFacts.{rows-end, rows-more}
 use Rattle.row_model.specs.Form.{fault_so_far}
 use Rattle.row_model.proofs.FormFacts.{form-front}
-use Rattle.csv_tables.specs.Records.{records_of}
 use Rattle.csv_tables.proofs.LoadFacts.{finishes-text, refused-text}
 use Rattle.csv_tables.proofs.RecordFacts.{reached-records, reached-some, records-few, all-records}
 use Rattle.csv_tables.proofs.tables.load_text.Goals as goal

@@ -1,4 +1,4 @@
-use Rattle.std.proofs.Common.{◌≡◌, ◌∙◌, ◌<◌, ◌≤◌, List, ℕ, sym, refl, map, length, string_bytes, arith}
+use Rattle.std.proofs.Common.{◌∙◌, List, ℕ, sym, map, length, string_bytes, arith}
 use Rattle.std.proofs.lemmas.List.{length-map}
 use Rattle.pg_sync.proofs.WordFacts.{nine, command_of-other, command_of-none, command_of-some, not_nine}
 use Rattle.pg_sync.proofs.words.read_words.Goals as goal
