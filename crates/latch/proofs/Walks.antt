@@ -1,5 +1,5 @@
 -- The view of a seat along the steps of a call.
-use Rattle.std.proofs.Common.{◌≡◌, ℕ, ◌==◌, Bool, true, false, cond, List, [], ◌∷◌, ◌++◌, append_assoc, Some, refl, sym, ap, ◌∙◌}
+use Rattle.std.proofs.Common.{◌≡◌, ℕ, ◌==◌, ◌≤◌, Bool, true, false, cond, List, [], ◌∷◌, ◌++◌, append-nil, append_assoc, Some, refl, sym, ap, ◌∙◌, arith}
 use Rattle.wait_core.specs.declared.step.Until.{Until}
 use Rattle.wait_core.specs.declared.step.WaitStep.{WaitStep}
 use Rattle.wait_core.specs.declared.view.Frame.{Frame}
@@ -11,7 +11,7 @@ use Rattle.wait_core.specs.Machine.{Place, top, outer, made, place_after, looked
 use Rattle.wait_core.specs.declared.step.WaitStep.TheVariants.{Sload, Shload}
 use Rattle.latch.specs.declared.wait.Woke.{Woke}
 use Rattle.latch.specs.declared.wait.Woke.TheVariants.{LatchSet, Shutdown}
-use Rattle.latch.specs.Reads.{went, ReadLatch, ReadShutdown, WasRead}
+use Rattle.latch.specs.Reads.{went, OnlyWaits, ReadLatch, ReadShutdown, WasRead}
 
 -- where a seat stands that looks at its wake byte
 abbrev pub watches : Until → Bool → Frame
@@ -22,7 +22,16 @@ watches u false = Looking u
 abbrev pub stopping : ℕ → ℕ → Place → Place
 stopping procs n p = cond (n == procs) p (Stopping n ∷ p)
 
+-- a place with this innermost frame
+pub at_top : (p : Place) (f : Frame) → top p ≡ Some f → p ≡ f ∷ outer p
+at_top [] f e = absurd (cc)
+at_top (g ∷ p) f e = ap (λ (x : Frame). x ∷ p) (cc)
+
 module _ {C : Type 0} where
+  -- before the first step, where the innermost frame is f
+  pub went_nil : (v : WaitView C) (f : Frame) → top v.place ≡ Some f → v ≡ went v (f ∷ outer v.place) []
+  went_nil v f e = ap (λ (p : Place). record v { place = p }) (at_top v.place f e) ∙ ap (λ (l : List Made). record v { place = f ∷ outer v.place; steps = l }) (sym (append-nil v.steps))
+
   -- one step more, which found m
   pub went_on : (z : Size) (v w x : WaitView C) (p : Place) (more : List Made) (k : WaitStep) (n m : ℕ) → w ≡ went v p more → x ≡ next z k w n → n ≡ m → x ≡ went v (place_after z k m p) (more ++ made k m ∷ [])
   went_on z v w x p more k n m was is found = is ∙ (ap (λ (y : WaitView C). next z k y n) was ∙ (ap (λ (i : ℕ). next z k (went v p more) i) found ∙ ap (λ (l : List Made). record v { place = place_after z k m p; steps = l }) (append_assoc v.steps more (made k m ∷ []))))
@@ -31,10 +40,9 @@ module _ {C : Type 0} where
   pub went_through : (v w x : WaitView C) (p q : Place) (more rest : List Made) → w ≡ went v p more → x ≡ went w q rest → x ≡ went v q (more ++ rest)
   went_through v w x p q more rest was is = is ∙ (ap (λ (y : WaitView C). went y q rest) was ∙ ap (λ (l : List Made). record v { place = q; steps = l }) (append_assoc v.steps more rest))
 
--- a place with this innermost frame
-pub at_top : (p : Place) (f : Frame) → top p ≡ Some f → p ≡ f ∷ outer p
-at_top [] f e = absurd (cc)
-at_top (g ∷ p) f e = ap (λ (x : Frame). x ∷ p) (cc)
+-- a word that is at most 1 and is not 1
+pub clear_or_set : (n : ℕ) → n ≤ 1 → (n ≡ 1 → ⊥) → n ≡ 0
+clear_or_set n most clear = omega (arith, most, clear)
 
 pub may_look : (u : Until) (b : Bool) → MayLook (Some (watches u b))
 may_look u true = tt
@@ -58,3 +66,8 @@ shutdown_later n more rest r = record { before = more ++ r.before; begins = r.be
 pub read_later : (p : ℕ) (w : Woke) (more rest : List Made) → WasRead p w rest → WasRead p w (more ++ rest)
 read_later p LatchSet more rest r = latch_later p 1 more rest r
 read_later p Shutdown more rest r = (latch_later p 0 more rest r.0, shutdown_later 1 more rest r.1)
+
+-- steps of a wait after steps of a wait
+pub only-append : (p : ℕ) (more rest : List Made) → OnlyWaits p more → OnlyWaits p rest → OnlyWaits p (more ++ rest)
+only-append p [] rest a b = b
+only-append p (m ∷ more) rest a b = (a.0, only-append p more rest a.1 b)

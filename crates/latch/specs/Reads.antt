@@ -1,11 +1,12 @@
 -- What a call on latches read, by the steps that stand in its seat's view.
-use Rattle.std.specs.Prelude.{◌≡◌, ◌⊎◌, ℕ, zero, suc, List, [], ◌∷◌, ◌++◌, Option, Some}
+use Rattle.std.specs.Prelude.{◌≡◌, ◌⊎◌, ℕ, zero, suc, List, [], ◌∷◌, ◌++◌, Option, None, Some}
 use Rattle.latch.specs.declared.wait.Woke.{Woke}
 use Rattle.latch.specs.declared.wait.Woke.TheVariants.{LatchSet, Shutdown}
 use Rattle.wait_core.specs.declared.step.Until.{Until}
 use Rattle.wait_core.specs.declared.step.Call.{Call}
 use Rattle.wait_core.specs.declared.step.Call.TheVariants as call
-use Rattle.wait_core.specs.declared.step.WaitStep.TheVariants.{Sload, Sset, Mload, Byte, Shload, Shstore}
+use Rattle.wait_core.specs.declared.step.WaitStep.{WaitStep}
+use Rattle.wait_core.specs.declared.step.WaitStep.TheVariants.{Sload, Sset, Reset, Mstore, Mload, Byte, Look, Drain, Shload, Shstore}
 use Rattle.wait_core.specs.declared.view.Made.{Made}
 use Rattle.wait_core.specs.declared.view.Size.{Size}
 use Rattle.wait_core.specs.declared.view.WaitView.{WaitView}
@@ -50,11 +51,32 @@ pub record ShutSteps (procs : ℕ) (more : List Made) : Type 0 where
   pub split : more ≡ made (Shstore (Some call.Shut)) found ∷ bytes
   pub each : ByteSteps procs bytes
 
--- the steps of a wait: it begins with a load of the own latch
+-- a step that begins no call, and reads a word that p waits for or says whether p sleeps. It changes no latch, and no word of another backend
+abbrev pub IsOfWait : ℕ → WaitStep → Type 0
+IsOfWait p (Sload q None) = q ≡ p
+IsOfWait p (Sload q (Some c)) = ⊥
+IsOfWait p (Shload None) = Unit {0}
+IsOfWait p (Shload (Some c)) = ⊥
+IsOfWait p (Mstore may) = Unit {0}
+IsOfWait p Look = Unit {0}
+IsOfWait p Drain = Unit {0}
+IsOfWait p (Sset q) = ⊥
+IsOfWait p (Reset begins) = ⊥
+IsOfWait p (Mload q) = ⊥
+IsOfWait p (Byte q) = ⊥
+IsOfWait p (Shstore begins) = ⊥
+
+-- all of the steps are such
+abbrev pub OnlyWaits : ℕ → List Made → Type 0
+OnlyWaits p [] = Unit {0}
+OnlyWaits p (m ∷ more) = IsOfWait p m.step × OnlyWaits p more
+
+-- the steps of a wait: it begins with a load of the own latch, and makes no other call inside
 pub record WaitSteps (p : ℕ) (u : Until) (more : List Made) : Type 0 where
   pub found : ℕ
   pub then : List Made
   pub split : more ≡ made (Sload p (Some (call.Wait u))) found ∷ then
+  pub only : OnlyWaits p then
 
 -- what ended a wait was read in it: the latch is looked at first
 abbrev pub WasRead : ℕ → Woke → List Made → Type 0

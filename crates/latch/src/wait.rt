@@ -6,7 +6,7 @@ ghost use Rattle.wait_core.specs.declared.view.Frame.TheVariants.{Announcing, Lo
 ghost use Rattle.wait_core.specs.declared.view.Made.{Made};
 ghost use Rattle.wait_core.specs.Machine.{MayBegin, top, outer};
 ghost use Rattle.wait_core.specs.Places.{may_sleep};
-ghost use Rattle.latch.specs.Reads.{went, later, ReadLatch, WaitSteps, WasRead};
+ghost use Rattle.latch.specs.Reads.{went, later, OnlyWaits, ReadLatch, WaitSteps, WasRead};
 ghost use Rattle.latch.specs.declared.wait.Woke.TheVariants.{LatchSet};
 
 use proc_table::ProcNo;
@@ -87,7 +87,7 @@ fn look_and_sleep<P: Party, R: Wait>(
     requires own { seat.old.view.own ≡ Some own }
     requires place { top seat.old.view.place ≡ Some (Announcing until) }
     ensures table { (seat.new.table_id ≡ seat.old.table_id) × (seat.new.id ≡ seat.old.id) }
-    ensures woke { MatchOption result ((more : List Made) × (seat.new.view ≡ went seat.old.view (Repeating until ∷ outer seat.old.view.place) more)) (λ w. (more : List Made) × (seat.new.view ≡ went seat.old.view (outer seat.old.view.place) more) × WasRead own w more × (until ≡ Latch → w ≡ LatchSet)) }
+    ensures woke { MatchOption result ((more : List Made) × (seat.new.view ≡ went seat.old.view (Repeating until ∷ outer seat.old.view.place) more) × OnlyWaits own more) (λ w. (more : List Made) × (seat.new.view ≡ went seat.old.view (outer seat.old.view.place) more) × WasRead own w more × (until ≡ Latch → w ≡ LatchSet) × OnlyWaits own more) }
 {
     table.step(seat, WaitStep::Mstore(true));
     let again = table.step(seat, WaitStep::Sload(own, None));
@@ -111,7 +111,7 @@ fn sleep<P: Party, R: Wait>(rt: &R, table: &WaitTable<P>, seat: &mut WaitSeat<P>
     requires table { seat.old.table_id ≡ table.now.table_id }
     requires place { top seat.old.view.place ≡ Some (Looking until) }
     ensures table { (seat.new.table_id ≡ seat.old.table_id) × (seat.new.id ≡ seat.old.id) }
-    ensures woken { (more : List Made) × (seat.new.view ≡ went seat.old.view (Repeating until ∷ outer seat.old.view.place) more) }
+    ensures woken { (more : List Made) × (seat.new.view ≡ went seat.old.view (Repeating until ∷ outer seat.old.view.place) more) × ((p : ℕ) → OnlyWaits p more) }
 {
     for _ in rt.forever() {
         if table.step(seat, WaitStep::Look).old == 1 {

@@ -4,9 +4,9 @@ use Rattle.wait_core.specs.declared.step.WaitStep.TheVariants.{Sload}
 use Rattle.wait_core.specs.declared.view.Frame.TheVariants.{Announcing}
 use Rattle.wait_core.specs.declared.view.Made.{Made}
 use Rattle.wait_core.specs.Machine.{made}
-use Rattle.latch.specs.Reads.{went}
+use Rattle.latch.specs.Reads.{went, OnlyWaits}
 use Rattle.latch.proofs.wait.wait_until.Given as goal
 
 abbrev pub invariant-loop : goal.invariant-loop
 invariant-loop g l = (l.seat.table_id ≡ l.fn.seat.table_id) × (l.seat.id ≡ l.fn.seat.id)
-    × ((more : List Made) × (l.seat.view ≡ went l.fn.seat.view (Announcing l.until ∷ l.fn.seat.view.place) (made (Sload l.own (Some (call.Wait l.until))) 0 ∷ more)))
+    × ((more : List Made) × (l.seat.view ≡ went l.fn.seat.view (Announcing l.until ∷ l.fn.seat.view.place) (made (Sload l.own (Some (call.Wait l.until))) 0 ∷ more)) × OnlyWaits l.own more)
