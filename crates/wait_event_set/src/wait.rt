@@ -1,9 +1,11 @@
 //! Waiting for a set, and looking at one.
-ghost use Rattle.std.specs.Prelude.{◌≡◌, ◌<◌, ℕ, [], List, Some, length, MatchOption, if◌then◌else◌};
+ghost use Rattle.std.specs.Prelude.{◌≡◌, ◌<◌, ℕ, [], ◌∷◌, List, Some, length, MatchOption, if◌then◌else◌};
 ghost use Rattle.wait_core.specs.declared.view.Made.{Made};
+ghost use Rattle.wait_core.specs.Machine.{made};
 ghost use Rattle.latch.specs.Reads.{later, ReadShutdown};
 ghost use Rattle.wait_event_set.specs.declared.set.Event.TheVariants as event;
-ghost use Rattle.wait_event_set.specs.Members.{FirstAt};
+ghost use Rattle.wait_event_set.specs.Calls.{load_of, LooksAt, LooksOnce, OnlySetWaits};
+ghost use Rattle.wait_event_set.specs.Members.{FirstAt, NoneSuch};
 ghost use Rattle.wait_event_set.specs.Occurs.{Reports, Occurs, ReadEvent, NotReady, NothingReady};
 
 use crate::set::{Event, EventSet};
@@ -34,8 +36,9 @@ impl EventSet {
         requires place { seat.old.view.place ≡ [] }
         ensures table { (seat.new.table_id ≡ seat.old.table_id) × (seat.new.id ≡ seat.old.id) }
         ensures occurred { (p : ℕ) × (more : List Made) × (seat.old.view.own ≡ Some p) × (seat.new.view ≡ later seat.old.view more) × Occurs p self.now result more }
+        ensures calls { (p : ℕ) × (more : List Made) × (seat.old.view.own ≡ Some p) × (seat.new.view ≡ later seat.old.view more) × OnlySetWaits p self.now more }
     {
-        let _own = seat.proc();
+        let own = seat.proc();
         match (self.first(Event::Latch), self.first(Event::Shutdown)) {
             (Some(at), None) => {
                 wait_latch_only(rt, table, seat);
@@ -46,7 +49,7 @@ impl EventSet {
                 Woke::Shutdown => self.occurred(Event::Shutdown, stop),
             },
             (None, Some(stop)) => {
-                wait_shutdown(rt, table, seat);
+                self.wait_shutdown(rt, table, seat, own);
                 self.occurred(Event::Shutdown, stop)
             }
             (None, None) => unreachable!(),
@@ -59,6 +62,7 @@ impl EventSet {
         requires place { seat.old.view.place ≡ [] }
         ensures table { (seat.new.table_id ≡ seat.old.table_id) × (seat.new.id ≡ seat.old.id) }
         ensures occurred { (p : ℕ) × (more : List Made) × (seat.old.view.own ≡ Some p) × (seat.new.view ≡ later seat.old.view more) × MatchOption result (NothingReady p self.now more) (λ o. Occurs p self.now o more) }
+        ensures calls { (p : ℕ) × (more : List Made) × (seat.old.view.own ≡ Some p) × (seat.new.view ≡ later seat.old.view more) × LooksOnce p self.now more }
     {
         let own = seat.proc();
         if let Some(occurred) = self.poll_event(Event::Latch, table, seat, own) {
@@ -79,7 +83,7 @@ impl EventSet {
         requires own { seat.old.view.own ≡ Some own }
         requires place { seat.old.view.place ≡ [] }
         ensures table { (seat.new.table_id ≡ seat.old.table_id) × (seat.new.id ≡ seat.old.id) }
-        ensures read { (more : List Made) × (seat.new.view ≡ later seat.old.view more) × MatchOption result (NotReady own event self.now more) (λ o. Reports event self.now o × ReadEvent own event 1 more) }
+        ensures read { (more : List Made) × (seat.new.view ≡ later seat.old.view more) × MatchOption result (NotReady own event self.now more) (λ o. Reports event self.now o × ReadEvent own event 1 more) × LooksAt own event self.now more }
     {
         let Some(at) = self.first(event) else {
             return None;
@@ -88,6 +92,33 @@ impl EventSet {
             return None;
         }
         Some(self.occurred(event, at))
+    }
+
+    // Waits for a shutdown alone, in a set without a latch. A wait ends where the latch is set too,
+    // and then looks once more.
+    fn wait_shutdown<P: Party, R: Wait>(
+        &self,
+        rt: &R,
+        table: &WaitTable<P>,
+        seat: &mut WaitSeat<P>,
+        own: ProcNo,
+    )
+        requires members { NoneSuch event.Latch self.now × ((at : ℕ) × FirstAt event.Shutdown self.now at) }
+        requires table { seat.old.table_id ≡ table.now.table_id }
+        requires own { seat.old.view.own ≡ Some own }
+        requires place { seat.old.view.place ≡ [] }
+        ensures table { (seat.new.table_id ≡ seat.old.table_id) × (seat.new.id ≡ seat.old.id) }
+        ensures stopped { (more : List Made) × (seat.new.view ≡ later seat.old.view more) × ReadShutdown 1 more × OnlySetWaits own self.now more }
+    {
+        for _ in rt.forever() {
+            if let Woke::Shutdown = wait_latch(rt, table, seat) {
+                return;
+            }
+            if read_shutdown(table, seat) {
+                return;
+            }
+        }
+        unreachable!()
     }
 
     // The report of the first member with this event, which stands here.
@@ -110,28 +141,10 @@ fn read<P: Party>(event: Event, table: &WaitTable<P>, seat: &mut WaitSeat<P>, ow
     requires own { seat.old.view.own ≡ Some own }
     requires place { seat.old.view.place ≡ [] }
     ensures table { (seat.new.table_id ≡ seat.old.table_id) × (seat.new.id ≡ seat.old.id) }
-    ensures read { (more : List Made) × (seat.new.view ≡ later seat.old.view more) × ReadEvent own event (if result then 1 else 0) more }
+    ensures read { (more : List Made) × (more ≡ made (load_of own event) (if result then 1 else 0) ∷ []) × (seat.new.view ≡ later seat.old.view more) × ReadEvent own event (if result then 1 else 0) more }
 {
     match event {
         Event::Latch => latch_is_set(table, seat),
         Event::Shutdown => read_shutdown(table, seat),
     }
-}
-
-// Waits for a shutdown alone. A wait ends where the latch is set too, and then looks once more.
-fn wait_shutdown<P: Party, R: Wait>(rt: &R, table: &WaitTable<P>, seat: &mut WaitSeat<P>)
-    requires table { seat.old.table_id ≡ table.now.table_id }
-    requires place { seat.old.view.place ≡ [] }
-    ensures table { (seat.new.table_id ≡ seat.old.table_id) × (seat.new.id ≡ seat.old.id) }
-    ensures stopped { (more : List Made) × (seat.new.view ≡ later seat.old.view more) × ReadShutdown 1 more }
-{
-    for _ in rt.forever() {
-        if let Woke::Shutdown = wait_latch(rt, table, seat) {
-            return;
-        }
-        if read_shutdown(table, seat) {
-            return;
-        }
-    }
-    unreachable!()
 }
