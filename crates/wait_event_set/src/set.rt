@@ -17,6 +17,10 @@ pub enum Event {
 }
 
 impl Default for Event {
+    ghost use Rattle.wait_event_set.specs.declared.set.Event.TheVariants.{Latch};
+
+    ghost is_default = { λ e. e ≡ Latch };
+
     fn default() -> Event {
         Event::Latch
     }
