@@ -20,55 +20,46 @@ pub turn_inside : (t : Turn) → op_at (turn_op t) < 2
 turn_inside First = omega arith
 turn_inside Second = omega arith
 
-no_wrap : (n : ℕ) → n ≤ 64 → (n + 1) % 2 ^ 64 ≡ n + 1
-no_wrap n h = Rattle.std.proofs.Common.mod-eq_of_lt (omega arith)
+-- 1 was added to the word at a place, and the other word is as before
+added_one : (words : List ℕ) (at other : ℕ) → length words ≡ 2 → at < 2 → other ≢ at → get_or words at 0 ≤ 64
+    → let after = set words at ((get_or words at 0 + 1) % 2 ^ 64) in (length after ≡ 2) × (get_or after at 0 ≡ get_or words at 0 + 1) × (get_or after other 0 ≡ get_or words other 0)
+added_one words at other two inside apart few =
+    let x : ℕ = (get_or words at 0 + 1) % 2 ^ 64 in (
+      length-set words at x ∙ two,
+      get_or-set_same words at x 0 (omega arith) ∙ Rattle.std.proofs.Common.mod-eq_of_lt (omega arith),
+      get_or-set_other words at other x 0 apart,
+    )
+
+-- the words change as a seat's view does
+moves : (words after : List ℕ) (views : List V) (id : ℕ) (v w : V) → Balanced words views → get_elem? views id ≡ some v → length after ≡ 2
+    → left_of w + between_of w + done_of w ≡ left_of v + between_of v + done_of v → get_or after 1 0 + done_of v ≡ get_or words 1 0 + done_of w
+    → get_or after 0 0 + between_of v + done_of v ≡ get_or words 0 0 + between_of w + done_of w → Balanced after (set views id w)
+moves words after views id v w b at two turns done begun =
+    let l = total_set left_of views id v w at in
+    let m = total_set between_of views id v w at in
+    let d = total_set done_of views id v w at in
+    let one = b.one_each in
+    let first = b.first in
+    let second = b.second in
+    let long = length-set views id w in
+    record { two = two; second = omega arith; first = omega arith; one_each = omega arith }
 
 pub turn_keeps : (words : List ℕ) (views : List V) (phases : List ℕ) (id : ℕ) (v : V) (t : Turn) → Balanced words views → IsStep views phases id v → may_turn v.client t
     → let n = get_or words (op_at (turn_op t)) 0 in Balanced (set words (op_at (turn_op t)) (op_gives (turn_op t) n)) (set views id (with_client v (turned v.client t)))
 turn_keeps words views phases id v First b s may =
-    let w : V = with_client v (turned v.client First) in
-    let n : ℕ = get_or words 0 0 in
-    let x : ℕ = (n + 1) % 2 ^ 64 in
-    let l = total_set left_of views id v w s.at in
-    let m = total_set between_of views id v w s.at in
-    let d = total_set done_of views id v w s.at in
     let one = b.one_each in
-    let two = b.two in
     let first = b.first in
     let second = b.second in
     let few = s.few in
-    let same : x ≡ n + 1 = no_wrap n (omega arith) in
-    let here : get_or (set words 0 x) 0 0 ≡ x = get_or-set_same words 0 x 0 (omega arith) in
-    let other : get_or (set words 0 x) 1 0 ≡ get_or words 1 0 = get_or-set_other words 0 1 x 0 (λ e. omega arith) in
-    let long = length-set views id w in
-    record {
-      two = length-set words 0 x ∙ two;
-      second = omega arith;
-      first = omega arith;
-      one_each = omega arith;
-    }
+    let a = added_one words 0 1 b.two (omega arith) (λ e. omega arith) (omega arith) in
+    moves words _ views id v _ b s.at a.0 (omega arith) (omega arith) (omega arith)
 turn_keeps words views phases id v Second b s may =
-    let w : V = with_client v (turned v.client Second) in
-    let n : ℕ = get_or words 1 0 in
-    let x : ℕ = (n + 1) % 2 ^ 64 in
-    let l = total_set left_of views id v w s.at in
-    let m = total_set between_of views id v w s.at in
-    let d = total_set done_of views id v w s.at in
     let one = b.one_each in
-    let two = b.two in
     let first = b.first in
     let second = b.second in
     let few = s.few in
-    let same : x ≡ n + 1 = no_wrap n (omega arith) in
-    let here : get_or (set words 1 x) 1 0 ≡ x = get_or-set_same words 1 x 0 (omega arith) in
-    let other : get_or (set words 1 x) 0 0 ≡ get_or words 0 0 = get_or-set_other words 1 0 x 0 (λ e. omega arith) in
-    let long = length-set views id w in
-    record {
-      two = length-set words 1 x ∙ two;
-      second = omega arith;
-      first = omega arith;
-      one_each = omega arith;
-    }
+    let a = added_one words 1 0 b.two (omega arith) (λ e. omega arith) (omega arith) in
+    moves words _ views id v _ b s.at a.0 (omega arith) (omega arith) (omega arith)
 
 pub draw_keeps_balance : (words : List ℕ) (views : List V) (proc : ℕ) → Balanced words views → Balanced words (views ++ newcomer (progress 1 0 0) (Some proc) ∷ [])
 draw_keeps_balance words views proc b =
