@@ -1,5 +1,5 @@
 -- What each call on the table owes to it, from what the call's caller knows.
-use Rattle.std.proofs.Common.{◌≡◌, ℕ, ◌+◌, ◌^◌, ◌<◌, List, [], ◌∷◌, ◌++◌, get_or, set, Option, None, Some, refl, sym, ◌∙◌, subst, arith}
+use Rattle.std.proofs.Common.{◌≡◌, ℕ, ◌+◌, ◌^◌, ◌<◌, List, [], ◌∷◌, ◌++◌, get_or, set, Option, None, Some, refl, sym, ap, ◌∙◌, subst, arith}
 use Rattle.atomic_table.specs.Seated.{TableId}
 use Rattle.atomic_table.specs.Table.{Me, Step, keeps, stepped}
 use Rattle.atomic_table.proofs.Lists.{at_map, set_else}
@@ -20,14 +20,20 @@ use Rattle.wait_core.specs.Seats.{TableView, table_view}
 use Rattle.wait_core.proofs.RuleKept.{step_kept, word_inside, own_below}
 use Rattle.wait_core.proofs.SeatsKept.{client_kept, draw_kept, seat_kept, join_kept}
 
--- what holds of a table's value is so of its fields, and of an operation that equals another
-pub turned : {C X : Type 0} (law : X → List ℕ → List (PartyView C) → List ℕ → Type 0) (words_of : X → ℕ) (tid : TableId) (party : X) (z : Size) (phase count : ℕ) (t : TableView X) → table_view tid party z phase ≡ t → count ≡ words_of party
-    → (id : ℕ) (me : Me Kept (WaitView C)) (word : ℕ) (o p : ClientOp) → o ≡ p → (gives : ℕ → Me Kept (WaitView C) → Type 0)
-    → Turns (law t.party) t.size t.phase (words_of t.party) t.table_id.slots id me word (op_gives o) gives → Turns (law party) z phase count tid.slots id me word (op_gives p) gives
-turned law words_of tid party z phase count t is counted id me word o p same gives h =
-    subst (λ (x : ClientOp). Turns (law party) z phase count tid.slots id me word (op_gives x) gives) same
-    (subst (λ (n : ℕ). Turns (law party) z phase n tid.slots id me word (op_gives o) gives) (sym counted)
-    (subst (λ (x : TableView _). Turns (law x.party) x.size x.phase (words_of x.party) x.table_id.slots id me word (op_gives o) gives) (sym is) h))
+-- what a call's caller knows of a table's value, the call owes of its fields, of what the table was told once, and of an operation that equals another
+pub asked : {A C X : Type 0} (key about : A) → key ≡ about → (party : A → X) (size : A → Size) (phase count : A → ℕ) (law : X → List ℕ → List (PartyView C) → List ℕ → Type 0) (words_of : X → ℕ) (tid : TableId) (t : TableView X) → table_view tid (party about) (size about) (phase about) ≡ t → count about ≡ words_of (party about)
+    → (seat : TableId) (id : ℕ) (me : Me Kept (WaitView C)) (word : ℕ) (o p : ClientOp) → o ≡ p → (gives : ℕ → Me Kept (WaitView C) → Type 0)
+    → (seat ≡ t.table_id) × (word < t.table_id.words) → Turns (law t.party) t.size t.phase (words_of t.party) t.table_id.slots id me word (op_gives o) gives
+    → (seat ≡ tid) × (word < tid.words) × Turns (law (party key)) (size key) (phase key) (count key) tid.slots id me word (op_gives p) gives
+asked key about told party size phase count law words_of tid t is counted seat id me word o p same gives table h =
+    let tid_is : tid ≡ t.table_id = ap (λ (x : TableView _). x.table_id) is in (
+      table.0 ∙ sym tid_is,
+      subst (λ (x : TableId). word < x.words) (sym tid_is) table.1,
+      subst (λ (a : _). Turns (law (party a)) (size a) (phase a) (count a) tid.slots id me word (op_gives p) gives) (sym told)
+          (subst (λ (x : ClientOp). Turns (law (party about)) (size about) (phase about) (count about) tid.slots id me word (op_gives x) gives) same
+          (subst (λ (n : ℕ). Turns (law (party about)) (size about) (phase about) n tid.slots id me word (op_gives o) gives) (sym counted)
+          (subst (λ (x : TableView _). Turns (law x.party) x.size x.phase (words_of x.party) x.table_id.slots id me word (op_gives o) gives) (sym is) h))),
+    )
 
 module _ {C : Type 0} (holds : List ℕ → List (PartyView C) → List ℕ → Type 0) (z : Size) (phase count : ℕ) where
   -- a step of the machine, where the table's operation does what the machine says
