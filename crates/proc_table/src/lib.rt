@@ -39,3 +39,9 @@ impl<T: Drop> From<AllocFailed<T>> for NoMemory {
 pub struct NoMoreProcs {
     pub drawn: u64,
 }
+
+/// A count stands at its limit; `at` is that limit.
+#[derive(Debug, Clone, Copy, PartialEq, Eq)]
+pub struct Worn {
+    pub at: u64,
+}

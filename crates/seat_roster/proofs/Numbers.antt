@@ -1,5 +1,6 @@
 -- The roster is kept when a number is drawn, when it goes to a new seat, and when a seat takes over the numbers of another.
-use Rattle.std.proofs.Common.{◌≡◌, ◌≢◌, ℕ, zero, suc, ◌+◌, ◌<◌, ◌≤◌, cond, List, [], ◌∷◌, ◌++◌, length, set, Option, None, Some, sym, refl, ap, ◌∙◌, subst, ⊎_elim, inl, inr, arith, eq-eqb, length-append}
+use Rattle.std.proofs.Common.{◌≡◌, ◌≢◌, ℕ, zero, suc, ◌+◌, ◌<◌, ◌≤◌, eqb, cond, List, [], ◌∷◌, ◌++◌, length, set, Option, None, Some, sym, refl, ap, ◌∙◌, subst, ⊎_elim, inl, inr, arith, eq-eqb, length-append}
+use Rattle.std.proofs.lemmas.Bool.{cond_both}
 use Rattle.std.proofs.lemmas.Bool.Decides.{nat_tests}
 use mathlib.Core.Logic.{dite}
 use mathlib.Core.Option as maybe
@@ -33,9 +34,14 @@ one_seat procs next seats r i j p v u at at' own own' = dite (ℕ_discrete j i) 
     let a : times_in p v.own ≡ 1 = ap (times_in p) own ∙ ap (λ b. cond b 1 0) (eq-eqb p p refl) in
     let b : times_in p u.own ≡ 1 = ap (times_in p) own' ∙ ap (λ b. cond b 1 0) (eq-eqb p p refl) in absurd (omega arith))
 
-times_append : (x : ℕ) (xs ys : List ℕ) → times x (xs ++ ys) ≡ times x xs + times x ys
+-- how often a number is on a list
+pub times_append : (x : ℕ) (xs ys : List ℕ) → times x (xs ++ ys) ≡ times x xs + times x ys
 times_append x [] ys = omega arith
 times_append x (y ∷ xs) ys = let r = times_append x xs ys in omega arith
+
+pub times_most : (x : ℕ) (ys : List ℕ) → times x ys ≤ length ys
+times_most x [] = omega arith
+times_most x (y ∷ ys) = let r = times_most x ys in cond_both (eqb y x) 1 0 (λ (n : ℕ). n + times x ys ≤ length (y ∷ ys)) (λ _. omega arith) (λ _. omega arith)
 
 times_listed : (x : ℕ) (o : Option ℕ) → times x (listed o) ≡ times_in x o
 times_listed x None = refl

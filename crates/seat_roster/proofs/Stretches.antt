@@ -1,10 +1,10 @@
 -- A part of a rule speaks of some words and of a projection of each view. A step that changes neither keeps the part.
-use Rattle.std.proofs.Common.{◌≡◌, ◌≢◌, ℕ, zero, suc, List, [], ◌∷◌, ◌++◌, get_or, map, set, ap, ◌∙◌, sym, subst, refl, get_or-set_other}
+use Rattle.std.proofs.Common.{◌≡◌, ◌≢◌, ℕ, zero, suc, List, [], ◌∷◌, ◌++◌, get_or, map, set, ap, ◌∙◌, sym, subst, refl, ⊎_elim, get_or-set_other}
 use Rattle.std.proofs.lemmas.List.{map_push}
 use mathlib.Core.Option.{some, some-injective, some-ne-none}
 use lib.ListN.{get_elem?}
 use lib.Seq.{map-set}
-use Rattle.atomic_table.proofs.Lists.{set_again, at_map}
+use Rattle.atomic_table.proofs.Lists.{set_again, at_map, at_set, at_snoc}
 
 -- a fact of y is one of x
 pub for_same : {A : Type 0} (x y : A) → x ≡ y → (F : A → Type 0) → F y → F x
@@ -48,3 +48,10 @@ pub index_at : (ns : List ℕ) (i n : ℕ) → get_elem? ns i ≡ some n → get
 index_at [] i n e = absurd (some-ne-none n (sym e))
 index_at (x ∷ xs) zero n e = some-injective x n e
 index_at (x ∷ xs) (suc i) n e = index_at xs i n e
+
+-- a fact of each member, once one is changed, and once one is added
+pub each_set : {A : Type 0} (P : A → Type 0) (l : List A) (id : ℕ) (w : A) → ((j : ℕ) (u : A) → get_elem? l j ≡ some u → P u) → P w → (j : ℕ) (u : A) → get_elem? (set l id w) j ≡ some u → P u
+each_set P l id w others mine j u e = ⊎_elim (λ (t : (j ≡ id) × (w ≡ u)). subst P t.1 mine) (λ (t : (j ≢ id) × (get_elem? l j ≡ some u)). others j u t.1) (at_set l id j w u e)
+
+pub each_more : {A : Type 0} (P : A → Type 0) (l : List A) (w : A) → ((j : ℕ) (u : A) → get_elem? l j ≡ some u → P u) → P w → (j : ℕ) (u : A) → get_elem? (l ++ w ∷ []) j ≡ some u → P u
+each_more P l w others mine j u e = ⊎_elim (others j u) (λ (is : w ≡ u). subst P is mine) (at_snoc l w u j e)

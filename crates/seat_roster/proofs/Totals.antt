@@ -1,7 +1,10 @@
 -- Lemmas on totals: after a member is changed or added, and against one or two members.
-use Rattle.std.proofs.Common.{◌≡◌, ℕ, zero, suc, ◌+◌, ◌≤◌, List, [], ◌∷◌, ◌++◌, map, set, sym, refl, ap, arith}
+use Rattle.std.proofs.Common.{◌≡◌, ℕ, zero, suc, ◌+◌, ◌<◌, ◌≤◌, List, [], ◌∷◌, ◌++◌, length, map, set, sym, refl, ap, arith}
+use mathlib.Core.Logic.{dite}
 use mathlib.Core.Option.{some, some-injective, some-ne-none}
+use native.Mathlib.Decide.{ℕ_discrete}
 use lib.ListN.{get_elem?}
+use Rattle.atomic_table.proofs.Lists.{set_here}
 use Rattle.seat_roster.specs.Totals.{total}
 
 module _ {A : Type 0} (f : A → ℕ) where
@@ -52,3 +55,31 @@ total_sum_le f g k (x ∷ xs) h = let a = h 0 x refl in let b = total_sum_le f g
 pub total_none : {A : Type 0} (f : A → ℕ) (l : List A) → ((i : ℕ) (v : A) → get_elem? l i ≡ some v → f v ≡ 0) → total f l ≡ 0
 total_none f [] h = refl
 total_none f (x ∷ xs) h = let a = h 0 x refl in let b = total_none f xs (λ i v e. h (suc i) v e) in omega arith
+
+-- where it isn't nothing some member adds to it
+pub total_some : {A : Type 0} (f : A → ℕ) (l : List A) → 1 ≤ total f l → (i : ℕ) × (v : A) × (get_elem? l i ≡ some v) × (1 ≤ f v)
+total_some f [] more = absurd (omega arith)
+total_some f (x ∷ xs) more = dite (ℕ_discrete (f x) 0) (λ none. let r = total_some f xs (omega arith) in (suc r.0, r.1, r.2, r.3)) (λ adds. (zero, x, refl, omega arith))
+
+-- two totals together
+pub total_both : {A : Type 0} (f g : A → ℕ) (l : List A) → total (λ (x : A). f x + g x) l ≡ total f l + total g l
+total_both f g [] = refl
+total_both f g (x ∷ xs) = let r = total_both f g xs in omega arith
+
+-- g counts one member alone, and f nobody whom g doesn't count
+pub total_only : {A : Type 0} (f g : A → ℕ) (l : List A) (i : ℕ) (v : A) → get_elem? l i ≡ some v → total g l ≤ 1 → g v ≡ 1 → ((j : ℕ) (u : A) → get_elem? l j ≡ some u → g u ≡ 0 → f u ≡ 0) → total f l ≡ f v
+total_only f g [] i v e one mine none = absurd (some-ne-none v (sym e))
+total_only f g (x ∷ xs) zero v e one mine none =
+    let a : f x ≡ f v = ap f (some-injective x v e) in let b : g x ≡ g v = ap g (some-injective x v e) in
+    let c = total_none f xs (λ j u e'. none (suc j) u e' (let d = total_at g xs j u e' in omega arith)) in omega arith
+total_only f g (x ∷ xs) (suc i) v e one mine none =
+    let a = total_at g xs i v e in let b = none 0 x refl (omega arith) in let c = total_only f g xs i v e (omega arith) mine (λ j u e'. none (suc j) u e') in omega arith
+
+-- a member stands below the length, and is replaced where it stands
+pub at_inside : {A : Type 0} (l : List A) (i : ℕ) (v : A) → get_elem? l i ≡ some v → i < length l
+at_inside [] i v e = absurd (some-ne-none v (sym e))
+at_inside (x ∷ xs) zero v e = omega arith
+at_inside (x ∷ xs) (suc i) v e = let r = at_inside xs i v e in omega arith
+
+pub set_there : {A : Type 0} (l : List A) (i : ℕ) (v w : A) → get_elem? l i ≡ some v → get_elem? (set l i w) i ≡ some w
+set_there l i v w e = set_here l i w (at_inside l i v e)
