@@ -1,82 +1,100 @@
 -- What each step owes to the table, from what its caller knows.
-use Rattle.std.proofs.Common.{◌≡◌, ℕ, ◌+◌, ◌-◌, ◌%◌, ◌^◌, ◌<◌, ◌≤◌, Bool, cond, eq-eqb, List, [], ◌∷◌, get_or, set, map, Option, None, Some, sym, refl, ap, ◌∙◌, subst, arith}
+use Rattle.std.proofs.Common.{◌≡◌, ℕ, ◌+◌, ◌-◌, ◌%◌, ◌^◌, ◌<◌, ◌≤◌, eqb, Bool, true, false, cond, List, [], get_or, set, map, Option, None, Some, sym, refl, ap, ◌∙◌, subst, arith}
+use Rattle.std.proofs.lemmas.Bool.{eqb-true}
 use mathlib.Core.Option as maybe
 use lib.ListN.{get_elem?}
 use lib.Seq.{set-get_or}
 use prog.Atomic.{either}
-use Rattle.atomic_table.specs.Table.{Allows, Splits, Joins, keeps, stepped}
-use Rattle.atomic_table.proofs.Lists.{set_again}
+use Rattle.atomic_table.specs.Table.{Allows, Splits, Joins, Act, Valid, keeps, takes, homes_after, stepped}
+use Rattle.atomic_table.specs.Table as table
+use Rattle.atomic_table.proofs.Lists.{set_again, set_else}
 use Rattle.proc_table.specs.declared.Mode.{Mode}
 use Rattle.proc_table.specs.declared.Mode.TheVariants.{Shared, Exclusive}
 use Rattle.lw_core.specs.declared.step.LwStep.{LwStep}
-use Rattle.lw_core.specs.declared.step.LwStep.TheVariants.{Load, Grant, Refuse, Sub, Peek, GuardLoad, GuardStore}
+use Rattle.lw_core.specs.declared.step.LwStep.TheVariants.{Grant, Refuse, Sub, Lock, Unlock, Flag, Wake, Post, Down, SetReleaseOk}
 use Rattle.lw_core.specs.declared.step.WordOp.{WordOp}
-use Rattle.lw_core.specs.declared.view.Frame.TheVariants.{Trying}
 use Rattle.lw_core.specs.declared.view.View.{View}
 use Rattle.lw_core.specs.declared.view.Size.{Size}
-use Rattle.lw_core.specs.Words.{state_at, guard_at, word_count, grant_of, grant_held}
-use Rattle.lw_core.specs.Machine.{LwState, outer, not_held, held, hold_in, mode_in, learnt, written, moved, gripped, word_of, lock_of, becomes, next, Allowed, HoldsNothing}
-use Rattle.lw_core.specs.Rule.{Rule, numbers_of}
+use Rattle.lw_core.specs.declared.view.Waiter.{Waiter}
+use Rattle.lw_core.specs.Words.{Waiters, state_at, grant_of, grant_held, locked, has_flag}
+use Rattle.lw_core.specs.WaitLists.{home_of, home_list}
+use Rattle.lw_core.specs.Machine.{LwState, mode_in, number_of, lock_number, word_of, becomes, next, takes_list, as_waiters, act_of, carried, IsInRange, Allowed, HoldsNothing}
+use Rattle.lw_core.specs.Rule.{Rule, numbers_of, seating_of}
 use Rattle.lw_core.specs.Runs.{drew_one, stays, comes, both, spent}
 use Rattle.lw_core.specs.Ops.{about, gives, op_of, Owes}
-use Rattle.lw_core.specs.Told.{Sat, Tells, does, looks, draws_one}
+use Rattle.lw_core.specs.Sending.{HasSlot, held_for}
+use Rattle.lw_core.specs.Told.{Sat, does, looks, draws_one}
 use Rattle.seat_roster.proofs.Stretches.{at_seen}
+use Rattle.lw_core.proofs.Flags.{or_locked, or_ok, or_waiters, and_locked, and_locked_waiters}
+use Rattle.lw_core.proofs.Turning.{hand_follows}
 use Rattle.lw_core.proofs.Holders.{grant_below}
-use Rattle.lw_core.proofs.Touches.{on_exchange, hold_here, word_of_lock}
-use Rattle.lw_core.proofs.Counts.{inside_holds}
-use Rattle.lw_core.proofs.Guards.{reads_step, writes_step}
-use Rattle.lw_core.proofs.RuleKeeps.{rule_step, rule_draw, rule_split, rule_join}
+use Rattle.lw_core.proofs.Touches.{on_exchange}
+use Rattle.lw_core.proofs.Seats.{own_inside}
+use Rattle.lw_core.proofs.RuleKeeps.{rule_step, tells, sem_small, rule_draw, rule_split, rule_join}
 
 -- what is known of the word found, where the table's function of it is to be the machine's
 abbrev pub Bounds : LwStep → View → ℕ → Type 0
-Bounds (Load l b) v n = Unit {0}
 Bounds (Grant l m w) v n = n < 2 ^ 32
-Bounds (Refuse l m w) v n = Unit {0}
 Bounds (Sub l b) v n = (n < 2 ^ 32) × (grant_held (mode_in l v) ≤ n)
-Bounds (Peek l b) v n = Unit {0}
-Bounds (GuardLoad l k) v n = Unit {0}
-Bounds (GuardStore l k x) v n = Unit {0}
+Bounds (Post q b) v n = n < 2 ^ 32
+Bounds Down v n = (1 ≤ n) × (n < 2 ^ 32)
+Bounds k v n = n < 2 ^ 64
+
+-- where the list goes home it is the one that the seat has out; else no slot is read
+homes_same : (k : LwStep) (v : View) (n : ℕ) (found : List Waiter) (homes : List (maybe.Option Waiters)) (c : List (ℕ × Waiters)) → HasSlot k v c → homes_after homes (carried k v) (act_of k n found) ≡ homes_after homes c (act_of k n found)
+homes_same (Lock l b) v n found homes d h = on_exchange (has_flag locked n) 0 (λ (c : Bool). let a : Act Waiters = cond c (takes l (as_waiters found)) keeps in homes_after homes (carried (Lock l b) v) a ≡ homes_after homes d a) (λ _. refl) (λ _. refl)
+homes_same (Unlock l clears) v n found homes c h = ap (λ (x : List (ℕ × Waiters)). homes_after homes x (act_of (Unlock l clears) n found)) (sym h)
+homes_same (Wake l w to) v n found homes c h = ap (λ (x : List (ℕ × Waiters)). homes_after homes x (act_of (Wake l w to) n found)) (sym h)
+homes_same k v n found homes c h = refl
+
+-- a list that is taken was at home
+valid : (k : LwStep) (n : ℕ) (homes : List (maybe.Option Waiters)) (c : List (ℕ × Waiters)) → (takes_list k n ≡ true → (list : Waiters) × (get_elem? homes (lock_number k) ≡ maybe.some (maybe.some list))) → Valid homes c (act_of k n (home_list homes (lock_number k)))
+valid (Lock l b) n homes c h = taken (eqb (has_flag locked n) 0) h
+  where
+    taken : (b : Bool) → (b ≡ true → (list : Waiters) × (get_elem? homes l ≡ maybe.some (maybe.some list))) → Valid homes c (cond b (takes l (as_waiters (home_list homes l))) keeps)
+    taken true h = let there = h refl in there.1 ∙ ap (λ (o : maybe.Option (maybe.Option Waiters)). maybe.some (maybe.some (as_waiters (home_of o)))) (sym there.1)
+    taken false h = tt
+valid (Wake l w to) n homes c h = either_act (eqb n w)
+  where
+    either_act : (b : Bool) → Valid homes c (cond b table.gives keeps)
+    either_act true = tt
+    either_act false = tt
+valid k n homes c h = tt
 
 module _ (lawful : ℕ → List ℕ → Type 0) (z : Size) where
-  granted : (s : LwState) (r : Rule lawful z s) (id l w n : ℕ) (m : Mode) (v : View) → get_elem? s.views id ≡ maybe.some v → l < z.locks → n ≡ w → hold_in l (next (Grant l m w) v n) ≡ held m
-  granted s r id l w n m v at inside hit = let k : LwStep = Grant l m w in
-      subst (λ (b : Bool). hold_in l (cond b (gripped v k n (outer v.place) (held m) (v.grants + 1)) (moved v k n (Trying l m n ∷ outer v.place))) ≡ held m) (sym (eq-eqb n w hit))
-      (hold_here v k n (outer v.place) (held m) (v.grants + 1) (inside_holds lawful z s r id v at l inside))
-
-  tells : (s : LwState) (r : Rule lawful z s) (id : ℕ) (v : View) → get_elem? s.views id ≡ maybe.some v → (k : LwStep) → lock_of k < z.locks → Allowed lawful k v → Tells lawful k v (get_or s.words (word_of k) 0)
-  tells s r id v at (Load l b) inside ok = (r.counts l inside).fits
-  tells s r id v at (Grant l m w) inside ok = ((r.counts l inside).fits, granted s r id l w (get_or s.words (state_at l) 0) m v at inside)
-  tells s r id v at (Refuse l m w) inside ok = (r.counts l inside).fits
-  tells s r id v at (Sub l b) inside ok = ((r.counts l inside).fits, hold_here v (Sub l b) (get_or s.words (state_at l) 0) v.place not_held v.grants (inside_holds lawful z s r id v at l inside))
-  tells s r id v at (Peek l b) inside ok = (r.counts l inside).fits
-  tells s r id v at (GuardLoad l k) inside ok = let n : ℕ = get_or s.words (guard_at l k) 0 in
-      (hold_here v (GuardLoad l k) n v.place (learnt (hold_in l v) k n) v.grants (inside_holds lawful z s r id v at l inside), reads_step lawful z s r id v at l k inside ok)
-  tells s r id v at (GuardStore l k x) inside ok = let n : ℕ = get_or s.words (guard_at l k) 0 in
-      (hold_here v (GuardStore l k x) n v.place (written (hold_in l v) k x) v.grants (inside_holds lawful z s r id v at l inside), writes_step lawful z s r id v at l k x inside ok.0)
-
   enough : (s : LwState) (r : Rule lawful z s) (id l : ℕ) (v : View) → get_elem? s.views id ≡ maybe.some v → l < z.locks → (o : Option Mode) → mode_in l v ≡ o → grant_held o ≤ get_or s.words (state_at l) 0
   enough s r id l v at inside None e = omega arith
   enough s r id l v at inside (Some m) e = grant_below (map (mode_in l) s.views) id (get_or s.words (state_at l) 0) m (at_seen (mode_in l) s.views id v (Some m) at e) (r.counts l inside)
 
-  bounds : (s : LwState) (r : Rule lawful z s) (id : ℕ) (v : View) → get_elem? s.views id ≡ maybe.some v → (k : LwStep) → lock_of k < z.locks → Bounds k v (get_or s.words (word_of k) 0)
-  bounds s r id v at (Load l b) inside = tt
-  bounds s r id v at (Grant l m w) inside = (r.counts l inside).fits
-  bounds s r id v at (Refuse l m w) inside = tt
-  bounds s r id v at (Sub l b) inside = ((r.counts l inside).fits, enough s r id l v at inside (mode_in l v) refl)
-  bounds s r id v at (Peek l b) inside = tt
-  bounds s r id v at (GuardLoad l k) inside = tt
-  bounds s r id v at (GuardStore l k x) inside = tt
+  own_below : (s : LwState) (r : Rule lawful z s) (id : ℕ) (v : View) → get_elem? s.views id ≡ maybe.some v → (o : Option ℕ) → v.own ≡ o → (o ≡ None → ⊥) → number_of o < z.procs
+  own_below s r id v at None e numbered = absurd (numbered refl)
+  own_below s r id v at (Some p) e numbered = own_inside lawful z s r id v at p e
+
+  bounds : (s : LwState) (r : Rule lawful z s) (id : ℕ) (v : View) → get_elem? s.views id ≡ maybe.some v → (k : LwStep) → IsInRange z k → (v.own ≡ None → ⊥) → Allowed lawful k v
+      → let n = get_or s.words (word_of z (number_of v.own) k) 0 in n < 2 ^ 64 → Bounds k v n
+  bounds s r id v at (Grant l m w) inside numbered ok small = (r.counts l inside.0).fits
+  bounds s r id v at (Sub l b) inside numbered ok small = ((r.counts l inside.0).fits, enough s r id l v at inside.0 (mode_in l v) refl)
+  bounds s r id v at (Post q b) inside numbered ok small = sem_small lawful z s r id v at q inside.1
+  bounds s r id v at Down inside numbered ok small = (tells lawful z s r id v at Down inside numbered ok, sem_small lawful z s r id v at (number_of v.own) (own_below s r id v at v.own refl numbered))
+  bounds s r id v at k inside numbered ok small = small
+
+  -- the list that a step takes is at home
+  at_home : (s : LwState) (r : Rule lawful z s) (own : ℕ) (k : LwStep) → IsInRange z k → takes_list k (get_or s.words (word_of z own k) 0) ≡ true → (list : Waiters) × (get_elem? s.homes (lock_number k) ≡ maybe.some (maybe.some list))
+  at_home s r own (Lock l b) inside taken = (r.lists l inside.0).at_home (eqb-true _ _ taken)
+  at_home s r own k inside taken = absurd (cc)
 
   -- the step k, where the table's function f of the word is the machine's
-  allows : (slots id : ℕ) (me : Sat) (k : LwStep) (f : ℕ → ℕ) → lock_of k < z.locks → (me.0.own ≡ None → ⊥) → Allowed lawful k me.0
-      → ((n : ℕ) → Bounds k me.0 n → f n ≡ becomes k me.0 n) → Allows (Rule lawful z) slots id me (word_of k) f (does lawful k about me)
-  allows slots id me k f inside numbered ok agrees s r _ at _ = let n : ℕ = get_or s.words (word_of k) 0 in (
-    next k me.0 n,
-    keeps,
-    tt,
-    subst (λ (x : ℕ). Rule lawful z (stepped s (word_of k) x id [] (next k me.0 n) keeps)) (sym (agrees n (bounds s r id me.0 at k inside))) (rule_step lawful z s r id me.0 at k inside numbered ok),
-    (refl, refl, tells s r id me.0 at k inside ok),
-  )
+  allows : (slots id : ℕ) (me : Sat) (k : LwStep) (f : ℕ → ℕ) → IsInRange z k → (me.0.own ≡ None → ⊥) → Allowed lawful k me.0 → HasSlot k me.0 me.1
+      → ((n : ℕ) → Bounds k me.0 n → f n ≡ becomes k me.0 n) → Allows (Rule lawful z) slots id me (word_of z (number_of me.0.own) k) f (does lawful z k about me)
+  allows slots id me k f inside numbered ok slot agrees s r _ at small =
+      let own : ℕ = number_of me.0.own in let i : ℕ = word_of z own k in let n : ℕ = get_or s.words i 0 in let found : List Waiter = home_list s.homes (lock_number k) in let view : View = next k me.0 n found in (
+        view,
+        act_of k n found,
+        valid k n s.homes me.1 (at_home s r own k inside),
+        subst (λ (x : ℕ). Rule lawful z (stepped s i x id me.1 view (act_of k n found))) (sym (agrees n (bounds s r id me.0 at k inside numbered ok small)))
+            (subst (λ (x : List (maybe.Option Waiters)). Rule lawful z record { words = set s.words i (becomes k me.0 n); homes = x; views = set s.views id view }) (homes_same k me.0 n found s.homes me.1 slot) (rule_step lawful z s r id me.0 at k inside numbered ok)),
+        (found, refl, refl, tells lawful z s r id me.0 at k inside numbered ok, hand_follows lawful z me.0 (r.places id (seating_of me.0) (at_seen seating_of s.views id me.0 (seating_of me.0) at refl)).place k n found ok),
+      )
 
   -- seat 0 looks at the number that it may draw
   pub looks_allowed : (slots id : ℕ) (me : Sat) → Allows (Rule lawful z) slots id me 0 (λ n. n) (looks about me)
@@ -101,11 +119,8 @@ module _ (lawful : ℕ → List ℕ → Type 0) (z : Size) where
   pub splits_allowed : (id : ℕ) (v : View) → Splits (Rule lawful z) id v (stays v) (comes v)
   splits_allowed id v s r at = rule_split lawful z s r id v at
 
-  pub joins_allowed : (id : ℕ) (v : View) (other : ℕ) (w : View) → w.pending ≡ None → HoldsNothing w → Joins (Rule lawful z) id v other w (both v w) spent
-  joins_allowed id v other w settled empty s r at apart there = rule_join lawful z s r id v at other w there settled empty
-
-pub word_inside : (lawful : ℕ → List ℕ → Type 0) (z : Size) (k : LwStep) (v : View) (words locks : ℕ) → words ≡ word_count z → lock_of k < locks → locks ≡ z.locks → Allowed lawful k v → word_of k < words
-word_inside lawful z k v words locks long inside same ok = let place = word_of_lock lawful k v ok in omega arith
+  pub joins_allowed : (id : ℕ) (v : View) (other : ℕ) (w : View) → w.pending ≡ None → w.place ≡ [] → HoldsNothing w → Joins (Rule lawful z) id v other w (both v w) spent
+  joins_allowed id v other w settled idle empty s r at apart there = rule_join lawful z s r id v at other w apart (sym (set_else s.views id other (both v w) apart) ∙ there) settled idle empty
 
 sum_fits : (w : ℕ) (m : Mode) → w < 2 ^ 32 → (w + grant_of m) % 2 ^ 64 ≡ w + grant_of m
 sum_fits w Shared small = omega arith
@@ -116,23 +131,30 @@ subtracts : (n k : ℕ) → n < 2 ^ 32 → k ≤ n → (n + (2 ^ 64 - k)) % 2 ^ 
 subtracts n k small below = omega arith
 
 -- the table's operation does to the word what the machine says
-operates : (k : LwStep) (v : View) (n : ℕ) → Bounds k v n → gives (op_of k (mode_in (lock_of k) v)) n ≡ becomes k v n
-operates (Load l b) v n h = refl
+operates : (k : LwStep) (v : View) (n : ℕ) → Bounds k v n → gives (op_of k (held_for k v)) n ≡ becomes k v n
 operates (Grant l m w) v n small = on_exchange n w (λ (b : Bool). either b ((w + grant_of m) % 2 ^ 64) n ≡ cond b (w + grant_of m) n) (λ hit. sum_fits w m (omega arith)) (λ miss. refl)
 operates (Refuse l m w) v n h = on_exchange n w (λ (b : Bool). either b w n ≡ n) (λ hit. sym hit) (λ miss. refl)
 operates (Sub l b) v n h = subtracts n (grant_held (mode_in l v)) h.0 h.1
-operates (Peek l b) v n h = refl
-operates (GuardLoad l k) v n h = refl
-operates (GuardStore l k x) v n h = refl
+operates (Lock l b) v n h = or_locked n
+operates (Unlock l true) v n h = and_locked_waiters n h
+operates (Unlock l false) v n h = and_locked n h
+operates (Flag l) v n h = or_waiters n
+operates (Wake l w to) v n h = on_exchange n w (λ (b : Bool). either b to n ≡ cond b to n) (λ hit. refl) (λ miss. refl)
+operates (Post q b) v n h = omega arith
+operates Down v n h = subtracts n 1 h.1 h.0
+operates (SetReleaseOk l) v n h = or_ok n
+operates k v n h = refl
 
 -- a step of a seat, at a table whose key is its size
-pub owes : (lawful : ℕ → List ℕ → Type 0) (key z : Size) (k : LwStep) (me : Sat) (slots id : ℕ) (held : Option Mode) (v : View) (number locks : ℕ) → key ≡ z → lock_of k < locks → locks ≡ z.locks → me.0.own ≡ Some number → v ≡ me.0
-    → held ≡ mode_in (lock_of k) me.0 → Allowed lawful k v → Owes lawful key slots id me (word_of k) (gives (op_of k held)) k
-owes lawful key z k me slots id held v number locks keyed inside same own viewed has ok =
-    subst (λ (x : Size). Owes lawful x slots id me (word_of k) (gives (op_of k held)) k) (sym keyed)
-    (allows lawful z slots id me k (gives (op_of k held)) (omega arith) (λ none. absurd (cc)) (subst (Allowed lawful k) viewed ok)
-    (λ n b. ap (λ (o : Option Mode). gives (op_of k o) n) has ∙ operates k me.0 n b))
+pub owes : (lawful : ℕ → List ℕ → Type 0) (key z : Size) (k : LwStep) (me : Sat) (slots id own word : ℕ) (held : Option Mode) (o : WordOp) → key ≡ z → me.0.own ≡ Some own → held ≡ held_for k me.0 → IsInRange z k → Allowed lawful k me.0 → HasSlot k me.0 me.1
+    → word ≡ word_of z own k → o ≡ op_of k held → Owes lawful key slots id me word (gives o) k
+owes lawful key z k me slots id own word held o keyed mine has inside ok slot at is =
+    subst (λ (x : Size). Owes lawful x slots id me word (gives o) k) (sym keyed)
+    (subst (λ (i : ℕ). Owes lawful z slots id me i (gives o) k) (ap (λ (x : Option ℕ). word_of z (number_of x) k) mine ∙ sym at)
+    (allows lawful z slots id me k (gives o) inside (λ none. absurd (cc)) ok slot
+    (λ n b. ap (λ (x : WordOp). gives x n) is ∙ (ap (λ (x : Option Mode). gives (op_of k x) n) has ∙ operates k me.0 n b))))
 
--- the same, of one arm's operation
-pub owes_as : (lawful : ℕ → List ℕ → Type 0) (z : Size) (slots id : ℕ) (me : Sat) (word i : ℕ) (o arm : WordOp) (k : LwStep) → i ≡ word → o ≡ arm → Owes lawful z slots id me word (gives o) k → Owes lawful z slots id me i (gives arm) k
-owes_as lawful z slots id me word i o arm k at is h = subst (λ (x : ℕ × WordOp). Owes lawful z slots id me x.0 (gives x.1) k) (λ j. (sym at j, is j)) h
+-- the same, of one arm's operation, where the play names the table's size
+pub owes_as : (lawful : ℕ → List ℕ → Type 0) (z y : Size) (slots id : ℕ) (me : Sat) (word : ℕ) (o arm : WordOp) (k : LwStep) → y ≡ z → o ≡ arm → Owes lawful z slots id me word (gives o) k
+    → Allows (Rule lawful z) slots id me word (gives arm) (does lawful y k about me)
+owes_as lawful z y slots id me word o arm k sized is h = subst (λ (x : Size × WordOp). Allows (Rule lawful z) slots id me word (gives x.1) (does lawful x.0 k about me)) (λ j. (sym sized j, is j)) h

@@ -1,33 +1,29 @@
 -- Each lock's word counts its holders, after each kind of step and each move.
-use Rattle.std.proofs.Common.{◌≡◌, ℕ, ◌+◌, ◌-◌, ◌<◌, ◌≤◌, Bool, true, cond, List, [], ◌∷◌, ◌++◌, length, map, set, get_or, Option, None, Some, sym, refl, ap, ◌∙◌, subst, arith, get_or-set_same, get_or-set_other}
-use mathlib.Core.Logic.{dite}
+use Rattle.std.proofs.Common.{◌≡◌, ℕ, ◌+◌, ◌-◌, ◌^◌, ◌<◌, ◌≤◌, Bool, true, cond, List, [], ◌∷◌, ◌++◌, length, map, set, get_or, Option, None, Some, sym, refl, ap, ◌∙◌, subst, arith, get_or-set_same, get_or-set_other}
 use mathlib.Core.Option as maybe
-use native.Mathlib.Decide.{ℕ_discrete}
 use lib.ListN.{get_elem?}
 use lib.Seq.{set-get_or}
 use Rattle.proc_table.specs.declared.Mode.{Mode}
-use Rattle.lw_core.specs.declared.step.Call.TheVariants.{Try, Release, WaitForVar}
 use Rattle.lw_core.specs.declared.step.LwStep.{LwStep}
-use Rattle.lw_core.specs.declared.step.LwStep.TheVariants.{Load, Grant, Refuse, Sub, Peek, GuardLoad, GuardStore}
-use Rattle.lw_core.specs.declared.view.Hold.{Hold}
-use Rattle.lw_core.specs.declared.view.Frame.TheVariants.{Trying}
+use Rattle.lw_core.specs.declared.step.LwStep.TheVariants.{Load, Grant, Refuse, Sub, Peek, GuardLoad, GuardStore, Lock, Unlock, Flag, WaitStore, WaitLoad, Wake, Post, Look, Down, SetReleaseOk, VarLoad, VarStore}
+use Rattle.lw_core.specs.declared.view.Frame.TheVariants.{Trying, Detaching}
 use Rattle.lw_core.specs.declared.view.View.{View}
 use Rattle.lw_core.specs.declared.view.Size.{Size}
 use Rattle.seat_roster.specs.Totals.{total}
 use Rattle.seat_roster.specs.Roster.{count, one_if}
-use Rattle.lw_core.specs.Words.{state_at, guard_at, grant_of, grant_held, is_free}
-use Rattle.lw_core.specs.Machine.{LwState, outer, not_held, held, hold_in, mode_in, learnt, written, word_of, lock_of, becomes, moved, gripped, next, Allowed, after, HoldsNothing}
+use Rattle.lw_core.specs.Words.{state_at, guard_at, grant_of, grant_held, is_free, lock_part, var_at}
+use Rattle.lw_core.specs.WaitLists.{taken_from, kept_from, home_list}
+use Rattle.lw_core.specs.Machine.{LwState, Place, outer, not_held, held, hold_in, mode_in, learnt, written, number_of, lock_of, lock_number, IsInRange, word_of, becomes, moved, gripped, on_grant, let_go, detached, next, MayDetach, Allowed, after, HoldsNothing, releasing}
 use Rattle.lw_core.specs.CountsHolders.{is_shared, is_exclusive, CountsHolders}
 use Rattle.lw_core.specs.Rule.{numbers_of, EachCountsHolders, Rule}
 use Rattle.lw_core.specs.Runs.{drew_one, stays, comes, both, spent, drawn, split, joined}
+use Rattle.lw_core.specs.Seats.{mode_of_hold}
 use Rattle.seat_roster.proofs.Totals.{total_map, total_sum_le}
 use Rattle.seat_roster.proofs.Stretches.{frame, seen, seen_more, at_seen, unseen, for_same}
-use Rattle.lw_core.proofs.Holders.{one_mode, counts_granted, counts_released, counts_more}
-use Rattle.lw_core.proofs.Touches.{on_exchange, some_mode, hold_here, hold_else, word_of_lock, fresh_hold}
+use Rattle.lw_core.proofs.Holders.{one_mode, counts_granted, counts_released, counts_flagged, counts_more}
+use Rattle.lw_core.proofs.Flags.{part_set, part_unlocked, part_woken, small_set, small_unlocked, small_woken}
+use Rattle.lw_core.proofs.Touches.{on_exchange, on_lock, begun_release, some_mode, hold_here, hold_else, word_apart, fresh_hold}
 use Rattle.lw_core.proofs.Places as places
-
-abbrev mode_of : Hold → Option Mode
-mode_of h = h.mode
 
 module _ (lawful : ℕ → List ℕ → Type 0) (z : Size) (s : LwState) (r : Rule lawful z s) where
   -- few seats hold a lock, since each has a number of its own
@@ -59,43 +55,71 @@ module _ (lawful : ℕ → List ℕ → Type 0) (z : Size) (s : LwState) (r : Ru
     pub inside_holds : (l : ℕ) → l < z.locks → l < length v.holds
     inside_holds l below = let long = (places.mine lawful z s r id v at).long in let most = r.sized.locks in omega arith
 
+    -- the word has other flags
+    flags : (l x : ℕ) (w : View) → l < z.locks → mode_in l w ≡ mode_in l v → lock_part x ≡ lock_part (get_or s.words (state_at l) 0) → x < 2 ^ 32
+        → CountsHolders (get_or (set s.words (state_at l) x) (state_at l) 0) (map (mode_in l) (set s.views id w))
+    flags l x w below mode part small = let wide = r.sized.long in for_same _ _ (get_or-set_same s.words (state_at l) x 0 (omega arith)) (λ (n : ℕ). CountsHolders n (map (mode_in l) (set s.views id w)))
+        (for_same _ _ (unseen (mode_in l) s.views id v w at mode) (CountsHolders x) (counts_flagged (map (mode_in l) s.views) (get_or s.words (state_at l) 0) x part small (r.counts l below)))
+
     -- the lock that the step is on
-    here : (k : LwStep) → lock_of k < z.locks → (v.own ≡ None → ⊥) → Allowed lawful k v → let n = get_or s.words (word_of k) 0 in
-        CountsHolders (get_or (set s.words (word_of k) (becomes k v n)) (state_at (lock_of k)) 0) (map (mode_in (lock_of k)) (set s.views id (next k v n)))
-    here (Load l b) below numbered ok = read l _ below refl
-    here (Grant l m w) below numbered ok = let n : ℕ = get_or s.words (state_at l) 0 in let k : LwStep = Grant l m w in let now = places.tries lawful z s r id v at l w m ok.0 in
-        on_exchange n w (λ (b : Bool). CountsHolders (get_or (set s.words (state_at l) (cond b (w + grant_of m) n)) (state_at l) 0) (map (mode_in l) (set s.views id (cond b (gripped v k n (outer v.place) (held m) (v.grants + 1)) (moved v k n (Trying l m n ∷ outer v.place))))))
-        (λ hit. other l (w + grant_of m) (Some m) _ below (ap mode_of (hold_here v k n (outer v.place) (held m) (v.grants + 1) (inside_holds l below)))
+    here : (k : LwStep) → lock_of k ≡ Some (lock_number k) → lock_number k < z.locks → (v.own ≡ None → ⊥) → Allowed lawful k v → let n = get_or s.words (word_of z (number_of v.own) k) 0 in
+        CountsHolders (get_or (set s.words (word_of z (number_of v.own) k) (becomes k v n)) (state_at (lock_number k)) 0) (map (mode_in (lock_number k)) (set s.views id (next k v n (home_list s.homes (lock_number k)))))
+    here (Load l b) on below numbered ok = read l _ below refl
+    here (Grant l m w) on below numbered ok = let n : ℕ = get_or s.words (state_at l) 0 in let k : LwStep = Grant l m w in let now = places.tries lawful z s r id v at l w m ok.0 in
+        on_exchange n w (λ (b : Bool). CountsHolders (get_or (set s.words (state_at l) (cond b (w + grant_of m) n)) (state_at l) 0) (map (mode_in l) (set s.views id (cond b (gripped v k l n (on_grant v.surplus (outer v.place)) (held m) (v.grants + 1)) (moved v k n (Trying l m n ∷ outer v.place))))))
+        (λ hit. other l (w + grant_of m) (Some m) _ below (ap mode_of_hold (hold_here v k l n (on_grant v.surplus (outer v.place)) (held m) (v.grants + 1) (inside_holds l below)))
         (subst (λ (x : ℕ). CountsHolders (x + grant_of m) (set (map (mode_in l) s.views) id (Some m))) hit
         (counts_granted (map (mode_in l) s.views) id n m (at_seen (mode_in l) s.views id v None at now.0) (subst (λ (x : ℕ). is_free m x ≡ true) (sym hit) ok.1) (few_holders l) (r.counts l below))))
         (λ miss. read l _ below refl)
-    here (Refuse l m w) below numbered ok = read l _ below refl
-    here (Sub l (Some (Release i))) below numbered ok = let n : ℕ = get_or s.words (state_at l) 0 in let k : LwStep = Sub l (Some (Release i)) in let is = some_mode (mode_in l v) ok.0.2 in
-        other l (n - grant_held (mode_in l v)) None _ below (ap mode_of (hold_here v k n v.place not_held v.grants (inside_holds l below)))
+    here (Refuse l m w) on below numbered ok = read l _ below refl
+    here (Sub l b) on below numbered ok = let n : ℕ = get_or s.words (state_at l) 0 in let k : LwStep = Sub l b in let is = some_mode (mode_in l v) (begun_release b l v (places.mine lawful z s r id v at).place ok.0).1 in
+        other l (n - grant_held (mode_in l v)) None _ below (ap mode_of_hold (hold_here v k l n (let_go l (n - grant_held (mode_in l v)) (releasing b v.place)) not_held v.grants (inside_holds l below)))
         (subst (λ (x : Option Mode). CountsHolders (n - grant_held x) (set (map (mode_in l) s.views) id None)) (sym is.1) (counts_released (map (mode_in l) s.views) id n is.0 (at_seen (mode_in l) s.views id v (Some is.0) at is.1) (r.counts l below)))
-    here (Sub l (Some (Try i m))) below numbered ok = absurd ok.0
-    here (Sub l (Some (WaitForVar i old))) below numbered ok = absurd ok.0
-    here (Sub l None) below numbered ok = absurd ok.0
-    here (Peek l b) below numbered ok = read l _ below refl
-    here (GuardLoad l k) below numbered ok = let n : ℕ = get_or s.words (guard_at l k) 0 in same l (set s.words (guard_at l k) n) _ below (ap (λ (x : List ℕ). get_or x (state_at l) 0) (set-get_or s.words (guard_at l k) 0))
-        (ap mode_of (hold_here v (GuardLoad l k) n v.place (learnt (hold_in l v) k n) v.grants (inside_holds l below)))
-    here (GuardStore l k x) below numbered ok = let n : ℕ = get_or s.words (guard_at l k) 0 in same l (set s.words (guard_at l k) x) _ below (get_or-set_other s.words (guard_at l k) (state_at l) x 0 (λ e. omega arith))
-        (ap mode_of (hold_here v (GuardStore l k x) n v.place (written (hold_in l v) k x) v.grants (inside_holds l below)))
+    here (Peek l b) on below numbered ok = read l _ below refl
+    here (GuardLoad l k) on below numbered ok = let n : ℕ = get_or s.words (guard_at l k) 0 in same l (set s.words (guard_at l k) n) _ below (ap (λ (x : List ℕ). get_or x (state_at l) 0) (set-get_or s.words (guard_at l k) 0))
+        (ap mode_of_hold (hold_here v (GuardLoad l k) l n v.place (learnt (hold_in l v) k n) v.grants (inside_holds l below)))
+    here (GuardStore l k x) on below numbered ok = let n : ℕ = get_or s.words (guard_at l k) 0 in same l (set s.words (guard_at l k) x) _ below (get_or-set_other s.words (guard_at l k) (state_at l) x 0 (λ e. omega arith))
+        (ap mode_of_hold (hold_here v (GuardStore l k x) l n v.place (written (hold_in l v) k x) v.grants (inside_holds l below)))
+    here (Lock l b) on below numbered ok = flags l _ _ below refl (part_set 28 _ (omega arith)) (small_set 28 _ (omega arith) (r.counts l below).fits)
+    here (VarLoad l) on below numbered ok = let n : ℕ = get_or s.words (var_at l) 0 in same l (set s.words (var_at l) n) _ below (ap (λ (x : List ℕ). get_or x (state_at l) 0) (set-get_or s.words (var_at l) 0)) refl
+    here (VarStore l x) on below numbered ok = same l (set s.words (var_at l) x) _ below (get_or-set_other s.words (var_at l) (state_at l) x 0 (λ e. omega arith)) refl
+    here (Unlock l c) on below numbered ok = flags l _ _ below refl (part_unlocked c _) (small_unlocked c _ (r.counts l below).fits)
+    here (Flag l) on below numbered ok = flags l _ _ below refl (part_set 30 _ (omega arith)) (small_set 30 _ (omega arith) (r.counts l below).fits)
+    here (Wake l w to) on below numbered ok = let n : ℕ = get_or s.words (state_at l) 0 in
+        on_exchange n w (λ (b : Bool). CountsHolders (get_or (set s.words (state_at l) (cond b to n)) (state_at l) 0) (map (mode_in l) (set s.views id (moved v (Wake l w to) n (detached b n v.place)))))
+        (λ hit. woken v.place hit ok)
+        (λ miss. read l _ below refl)
+      where
+        woken : (p : Place) → get_or s.words (state_at l) 0 ≡ w → MayDetach l w to p → CountsHolders (get_or (set s.words (state_at l) to) (state_at l) 0) (map (mode_in l) (set s.views id (moved v (Wake l w to) (get_or s.words (state_at l) 0) (detached true (get_or s.words (state_at l) 0) v.place))))
+        woken (Detaching k found word ∷ p) hit d = flags l to _ below refl
+            (ap lock_part d.2 ∙ (part_woken (taken_from found) (kept_from found) w ∙ ap lock_part (sym hit)))
+            (subst (λ (x : ℕ). x < 2 ^ 32) (sym d.2) (small_woken (taken_from found) (kept_from found) w (subst (λ (x : ℕ). x < 2 ^ 32) hit (r.counts l below).fits)))
+        woken p hit d = absurd d
+    here (SetReleaseOk l) on below numbered ok = flags l _ _ below refl (part_set 29 _ (omega arith)) (small_set 29 _ (omega arith) (r.counts l below).fits)
+    here (WaitStore q x) on below numbered ok = absurd (cc)
+    here WaitLoad on below numbered ok = absurd (cc)
+    here (Post q b) on below numbered ok = absurd (cc)
+    here (Look b) on below numbered ok = absurd (cc)
+    here Down on below numbered ok = absurd (cc)
 
-    pub counts_step : (k : LwStep) → lock_of k < z.locks → (v.own ≡ None → ⊥) → Allowed lawful k v → EachCountsHolders z (after s id v k)
-    counts_step k inside numbered ok l below = let n : ℕ = get_or s.words (word_of k) 0 in let place = word_of_lock lawful k v ok in dite (ℕ_discrete l (lock_of k))
-        (λ is. subst (λ (i : ℕ). CountsHolders (get_or (set s.words (word_of k) (becomes k v n)) (state_at i) 0) (map (mode_in i) (set s.views id (next k v n)))) (sym is) (here k inside numbered ok))
-        (λ ne. frame (mode_in l) CountsHolders s.words (word_of k) (becomes k v n) (state_at l) s.views id v (next k v n) at (λ e. ne (omega arith)) (ap mode_of (hold_else k v n l ne)) (r.counts l below))
+    pub counts_step : (k : LwStep) → IsInRange z k → (v.own ≡ None → ⊥) → Allowed lawful k v → EachCountsHolders z (after z s id v k)
+    counts_step k inside numbered ok l below =
+        let i : ℕ = word_of z (number_of v.own) k in let n : ℕ = get_or s.words i 0 in let w : View = next k v n (home_list s.homes (lock_number k)) in
+        on_lock k l (CountsHolders (get_or (set s.words i (becomes k v n)) (state_at l) 0) (map (mode_in l) (set s.views id w)))
+        (λ on. let same : lock_number k ≡ l = ap number_of on in
+        subst (λ (j : ℕ). CountsHolders (get_or (set s.words i (becomes k v n)) (state_at j) 0) (map (mode_in j) (set s.views id w))) same
+        (here k (on ∙ ap Some (sym same)) (subst (λ (j : ℕ). j < z.locks) (sym same) below) numbered ok))
+        (λ off. frame (mode_in l) CountsHolders s.words i (becomes k v n) (state_at l) s.views id v w at (word_apart lawful z (number_of v.own) k v ok l below off (state_at l) (omega arith) (omega arith)) (ap mode_of_hold (hold_else k v n (home_list s.homes (lock_number k)) l off)) (r.counts l below))
 
     pub counts_draw : EachCountsHolders z (drawn s id v)
     counts_draw l below = same l (set s.words 0 (get_or s.words 0 0 + 1)) (drew_one v) below (get_or-set_other s.words 0 (state_at l) (get_or s.words 0 0 + 1) 0 (λ e. omega arith)) refl
 
     pub counts_split : EachCountsHolders z (split s id v)
-    counts_split l below = let none : mode_in l (comes v) ≡ None = ap mode_of (fresh_hold v.pending l) in
+    counts_split l below = let none : mode_in l (comes v) ≡ None = ap mode_of_hold (fresh_hold v.pending l) in
         for_same _ _ (seen_more (mode_in l) (set s.views id (stays v)) (comes v)) (CountsHolders (get_or s.words (state_at l) 0))
         (for_same _ _ none (λ (o : Option Mode). CountsHolders (get_or s.words (state_at l) 0) (map (mode_in l) (set s.views id (stays v)) ++ o ∷ []))
         (counts_more (map (mode_in l) (set s.views id (stays v))) (get_or s.words (state_at l) 0) (same l s.words (stays v) below refl refl)))
 
     pub counts_join : (other : ℕ) (w : View) → get_elem? (set s.views id (both v w)) other ≡ maybe.some w → HoldsNothing w → EachCountsHolders z (joined s id v other w)
     counts_join other w there empty l below =
-        for_same _ _ (unseen (mode_in l) (set s.views id (both v w)) other w spent there (ap mode_of (fresh_hold None l) ∙ sym (empty l))) (CountsHolders (get_or s.words (state_at l) 0)) (same l s.words (both v w) below refl refl)
+        for_same _ _ (unseen (mode_in l) (set s.views id (both v w)) other w spent there (ap mode_of_hold (fresh_hold None l) ∙ sym (empty l))) (CountsHolders (get_or s.words (state_at l) 0)) (same l s.words (both v w) below refl refl)

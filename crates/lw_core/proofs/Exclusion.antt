@@ -1,5 +1,5 @@
 -- What the rule says to the users of a lock.
-use Rattle.std.proofs.Common.{◌≡◌, ◌≢◌, ℕ, ◌+◌, ◌<◌, List, get_or, set, map, Option, None, Some, sym, refl, ap, ◌∙◌, subst, arith, get_or-set_other}
+use Rattle.std.proofs.Common.{◌≡◌, ◌≢◌, ℕ, ◌+◌, List, get_or, set, map, Option, None, Some, sym, refl, ap, ◌∙◌, subst, arith, get_or-set_other}
 use mathlib.Core.Logic.{dite}
 use mathlib.Core.Option as maybe
 use native.Mathlib.Decide.{ℕ_discrete}
@@ -8,26 +8,23 @@ use lib.Seq.{set-get_or}
 use Rattle.proc_table.specs.declared.Mode.{Mode}
 use Rattle.proc_table.specs.declared.Mode.TheVariants.{Shared, Exclusive}
 use Rattle.lw_core.specs.declared.step.LwStep.{LwStep}
-use Rattle.lw_core.specs.declared.step.LwStep.TheVariants.{Load, Grant, Refuse, Sub, Peek, GuardLoad, GuardStore}
-use Rattle.lw_core.specs.declared.view.Hold.{Hold}
+use Rattle.lw_core.specs.declared.step.LwStep.TheVariants.{Load, Grant, Refuse, Sub, Peek, GuardLoad, GuardStore, Lock, Unlock, Flag, WaitStore, WaitLoad, Wake, Post, Look, Down, SetReleaseOk, VarLoad, VarStore}
 use Rattle.lw_core.specs.declared.view.View.{View}
 use Rattle.lw_core.specs.declared.view.Size.{Size}
 use Rattle.seat_roster.specs.Totals.{total}
 use Rattle.seat_roster.specs.Roster.{count, one_if}
-use Rattle.lw_core.specs.Words.{state_at, guard_at, guarded, Conflicts}
-use Rattle.lw_core.specs.Machine.{LwState, HoldsNothing, mode_in, hold_in, word_of, becomes, lock_of, Allowed}
+use Rattle.lw_core.specs.Words.{state_at, guard_at, waiting_at, sem_at, guarded, Conflicts}
+use Rattle.lw_core.specs.Machine.{LwState, HoldsNothing, mode_in, hold_in, number_of, IsInRange, word_of, becomes, Allowed}
 use Rattle.lw_core.specs.CountsHolders.{is_exclusive}
 use Rattle.lw_core.specs.Rule.{Rule, numbers_of}
 use Rattle.lw_core.specs.Promises.{HoldersAgree, UnheldAreLawful, LastHoldsAlone, WordsStand}
+use Rattle.lw_core.specs.Seats.{mode_of_hold}
 use Rattle.seat_roster.proofs.Totals.{total_map, total_none, total_two}
 use Rattle.lw_core.proofs.Places.{mine}
 use Rattle.seat_roster.proofs.Stretches.{at_seen, map_twice}
 use Rattle.lw_core.proofs.Holders.{holders_agree}
 use Rattle.lw_core.proofs.Guarding.{lawful_unheld}
-use Rattle.lw_core.proofs.Touches.{guarded_same, guarded_off, some_mode}
-
-abbrev mode_of : Hold → Option Mode
-mode_of h = h.mode
+use Rattle.lw_core.proofs.Touches.{guarded_same, guarded_off, guarded_past, some_mode, guarded_off_var}
 
 module _ (lawful : ℕ → List ℕ → Type 0) (z : Size) where
   pub exclusion : (s : LwState) → Rule lawful z s → HoldersAgree z s
@@ -36,7 +33,7 @@ module _ (lawful : ℕ → List ℕ → Type 0) (z : Size) where
 
   pub unheld : (s : LwState) → Rule lawful z s → UnheldAreLawful lawful z s
   unheld s r l below free = lawful_unheld (lawful l) (guarded s.words l) (map (hold_in l) s.views) (r.guarded l below)
-      (subst (λ (x : List (Option Mode)). total is_exclusive x ≡ 0) (sym (map_twice mode_of (hold_in l) s.views))
+      (subst (λ (x : List (Option Mode)). total is_exclusive x ≡ 0) (sym (map_twice mode_of_hold (hold_in l) s.views))
       (total_map is_exclusive (mode_in l) s.views ∙ total_none (λ (u : View). is_exclusive (mode_in l u)) s.views (λ i u at. none (mode_in l u) (free i u at))))
     where
       none : (o : Option Mode) → (o ≡ Some Exclusive → ⊥) → is_exclusive o ≡ 0
@@ -55,7 +52,7 @@ module _ (lawful : ℕ → List ℕ → Type 0) (z : Size) where
           let one : one_if v.own ≡ 1 = ap one_if zero_is in let other : one_if u.own ≡ 1 = ap one_if e in absurd (omega arith)
 
   pub stand : WordsStand lawful z
-  stand s t id holder l k v r e below at held own = subst (λ (x : LwState). guarded x.words l ≡ guarded s.words l) (sym e.is) (by_kind k e.lock e.allowed)
+  stand s t id holder l k v r e below at held apart_from = subst (λ (x : LwState). guarded x.words l ≡ guarded s.words l) (sym e.is) (by_kind k e.range e.allowed)
     where
       agree : (m n : Mode) (u : View) → id ≢ holder → get_elem? s.views id ≡ maybe.some u → mode_in l v ≡ Some m → mode_in l u ≡ Some n → Conflicts m n → ⊥
       agree m n u apart there mine other = exclusion s r l holder id v u m n below apart at there mine other
@@ -68,16 +65,31 @@ module _ (lawful : ℕ → List ℕ → Type 0) (z : Size) where
       nobody : mode_in l e.view ≡ Some Exclusive → ⊥
       nobody mine = dite (ℕ_discrete id holder)
           (λ is. let same : e.view ≡ v = maybe.some-injective e.view v (sym e.at ∙ (ap (get_elem? s.views) is ∙ at)) in
-          let shared : mode_in l v ≡ Some Shared = own is in let exclusive : mode_in l v ≡ Some Exclusive = ap (mode_in l) (sym same) ∙ mine in absurd (cc))
+          let shared : mode_in l v ≡ Some Shared = apart_from is in let exclusive : mode_in l v ≡ Some Exclusive = ap (mode_in l) (sym same) ∙ mine in absurd (cc))
           (λ apart. let is = some_mode (mode_in l v) held in agree is.0 Exclusive e.view apart e.at is.1 mine (conflict is.0))
 
-      by_kind : (k : LwStep) → lock_of k < z.locks → Allowed lawful k e.view → guarded (set s.words (word_of k) (becomes k e.view (get_or s.words (word_of k) 0))) l ≡ guarded s.words l
+      own : ℕ
+      own = number_of e.view.own
+
+      by_kind : (k : LwStep) → IsInRange z k → Allowed lawful k e.view → guarded (set s.words (word_of z own k) (becomes k e.view (get_or s.words (word_of z own k) 0))) l ≡ guarded s.words l
+      by_kind (GuardLoad i j) inside ok = ap (λ (x : List ℕ). guarded x l) (set-get_or s.words (guard_at i j) 0)
+      by_kind (GuardStore i j x) inside ok = let few = ok.0 in dite (ℕ_discrete l i)
+          (λ is. absurd (nobody (ap (λ (y : ℕ). mode_in y e.view) is ∙ ok.2)))
+          (λ ne. guarded_same (set s.words (guard_at i j) x) s.words l (λ y few. get_or-set_other s.words (guard_at i j) (guard_at l y) x 0 (λ same. ne (omega arith))))
       by_kind (Load i b) inside ok = guarded_off s.words i _ l
       by_kind (Grant i m w) inside ok = guarded_off s.words i _ l
       by_kind (Refuse i m w) inside ok = guarded_off s.words i _ l
       by_kind (Sub i b) inside ok = guarded_off s.words i _ l
       by_kind (Peek i b) inside ok = guarded_off s.words i _ l
-      by_kind (GuardLoad i j) inside ok = ap (λ (x : List ℕ). guarded x l) (set-get_or s.words (guard_at i j) 0)
-      by_kind (GuardStore i j x) inside ok = let few = ok.0 in dite (ℕ_discrete l i)
-          (λ is. absurd (nobody (ap (λ (y : ℕ). mode_in y e.view) is ∙ ok.2)))
-          (λ ne. guarded_same (set s.words (guard_at i j) x) s.words l (λ y below. get_or-set_other s.words (guard_at i j) (guard_at l y) x 0 (λ same. ne (omega arith))))
+      by_kind (Lock i b) inside ok = guarded_off s.words i _ l
+      by_kind (VarLoad i) inside ok = guarded_off_var s.words i _ l
+      by_kind (VarStore i x) inside ok = guarded_off_var s.words i _ l
+      by_kind (Unlock i c) inside ok = guarded_off s.words i _ l
+      by_kind (Flag i) inside ok = guarded_off s.words i _ l
+      by_kind (Wake i w to) inside ok = guarded_off s.words i _ l
+      by_kind (SetReleaseOk i) inside ok = guarded_off s.words i _ l
+      by_kind (WaitStore q x) inside ok = guarded_past s.words l (waiting_at z q) _ (omega arith)
+      by_kind WaitLoad inside ok = guarded_past s.words l (waiting_at z own) _ (omega arith)
+      by_kind (Post q b) inside ok = guarded_past s.words l (sem_at z q) _ (omega arith)
+      by_kind (Look b) inside ok = guarded_past s.words l (sem_at z own) _ (omega arith)
+      by_kind Down inside ok = guarded_past s.words l (sem_at z own) _ (omega arith)

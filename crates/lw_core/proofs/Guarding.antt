@@ -4,7 +4,7 @@ use mathlib.Core.Logic.{dite}
 use mathlib.Core.Option as maybe
 use native.Mathlib.Decide.{ℕ_discrete}
 use lib.ListN.{get_elem?}
-use Rattle.atomic_table.proofs.Lists.{at_set, at_snoc, at_map}
+use Rattle.atomic_table.proofs.Lists.{at_set, at_map}
 use Rattle.proc_table.specs.declared.Mode.{Mode}
 use Rattle.proc_table.specs.declared.Mode.TheVariants.{Shared, Exclusive}
 use Rattle.lw_core.specs.declared.view.Hold.{Hold}
@@ -13,11 +13,10 @@ use Rattle.lw_core.specs.Machine.{not_held, held, known_at, learnt, written, Lea
 use Rattle.lw_core.specs.CountsHolders.{is_shared, is_exclusive, CountsHolders}
 use Rattle.lw_core.specs.GuardedIsLawful.{one_where, writes, Knows, GuardedIsLawful}
 use Rattle.lw_core.specs.Told.{Reads}
+use Rattle.lw_core.specs.Seats.{mode_of_hold}
 use Rattle.seat_roster.proofs.Totals.{total_set, total_snoc, total_at, total_map, total_le, total_gap}
+use Rattle.seat_roster.proofs.Stretches.{each_set, each_more}
 use Rattle.lw_core.proofs.Holders.{alone_holds}
-
-abbrev mode_of : Hold → Option Mode
-mode_of h = h.mode
 
 blank : (k : ℕ) → known_at not_held k ≡ None
 blank zero = refl
@@ -54,10 +53,7 @@ module _ (lawful : List ℕ → Type 0) (words : List ℕ) (holds : List Hold) (
   changed : (id : ℕ) (h h' : Hold) → get_elem? holds id ≡ maybe.some h → Knows words h' → (total writes (set holds id h') ≡ 0 → lawful words) → GuardedIsLawful lawful words (set holds id h')
   changed id h h' at knows unwritten = record {
     unwritten = unwritten;
-    knows = λ j u e. ⊎_elim
-        (λ (t : (j ≡ id) × (h' ≡ u)). subst (Knows words) t.1 knows)
-        (λ (t : (j ≢ id) × (get_elem? holds j ≡ maybe.some u)). g.knows j u t.1)
-        (at_set holds id j h' u e);
+    knows = each_set (Knows words) holds id h' g.knows knows;
   }
 
   -- a grant
@@ -87,7 +83,7 @@ module _ (lawful : List ℕ → Type 0) (words : List ℕ) (holds : List Hold) (
       (λ zeros. let sum = total_set writes holds id h (learnt h k x) at in g.unwritten (omega arith))
 
   -- the exclusive holder writes the word k
-  pub guarded_written : (id k x n : ℕ) (h : Hold) → k < 4 → length words ≡ 4 → get_elem? holds id ≡ maybe.some h → h.mode ≡ Some Exclusive → CountsHolders n (map mode_of holds) → GuardedIsLawful lawful (set words k x) (set holds id (written h k x))
+  pub guarded_written : (id k x n : ℕ) (h : Hold) → k < 4 → length words ≡ 4 → get_elem? holds id ≡ maybe.some h → h.mode ≡ Some Exclusive → CountsHolders n (map mode_of_hold holds) → GuardedIsLawful lawful (set words k x) (set holds id (written h k x))
   guarded_written id k x n h few long at mine counts = let o = g.knows id h at in let four = o.four in let here = learnt_here h k x (omega arith) in let exclusive : is_exclusive h.mode ≡ 1 = ap is_exclusive mine in record {
     unwritten = λ zeros. let sum = total_set writes holds id h (written h k x) at in let part = total_at writes holds id h at in absurd (omega arith);
     knows = λ j u e. ⊎_elim
@@ -101,7 +97,7 @@ module _ (lawful : List ℕ → Type 0) (words : List ℕ) (holds : List Hold) (
           wrote = omega arith;
         })
         (λ (t : (j ≢ id) × (get_elem? holds j ≡ maybe.some u)). let p = g.knows j u t.1 in
-        let free = alone_holds (map mode_of holds) id j n u.mode t.0 (at_map mode_of holds id h at ∙ ap maybe.some mine) (at_map mode_of holds j u t.1) counts in record {
+        let free = alone_holds (map mode_of_hold holds) id j n u.mode t.0 (at_map mode_of_hold holds id h at ∙ ap maybe.some mine) (at_map mode_of_hold holds j u t.1) counts in record {
           four = p.four;
           right = λ i m below e'. let none = p.none free i in absurd (cc);
           none = p.none;
@@ -114,7 +110,7 @@ module _ (lawful : List ℕ → Type 0) (words : List ℕ) (holds : List Hold) (
   pub guarded_more : GuardedIsLawful lawful words (holds ++ not_held ∷ [])
   guarded_more = record {
     unwritten = λ zeros. let sum = total_snoc writes holds not_held in g.unwritten (omega arith);
-    knows = λ j u e. ⊎_elim (λ t. g.knows j u t) (λ t. subst (Knows words) t (knows_not_held words)) (at_snoc holds not_held u j e);
+    knows = each_more (Knows words) holds not_held g.knows (knows_not_held words);
   }
 
   -- a seat that doesn't hold the lock is spent
@@ -126,25 +122,25 @@ module _ (lawful : List ℕ → Type 0) (words : List ℕ) (holds : List Hold) (
   writes_le i h at = (g.knows i h at).wrote
 
   -- nobody has written a word of a lock that nobody holds exclusively
-  pub lawful_unheld : total is_exclusive (map mode_of holds) ≡ 0 → lawful words
-  lawful_unheld free = let same = total_map is_exclusive mode_of holds in let le = total_le writes (λ (h : Hold). is_exclusive h.mode) holds writes_le in g.unwritten (omega arith)
+  pub lawful_unheld : total is_exclusive (map mode_of_hold holds) ≡ 0 → lawful words
+  lawful_unheld free = let same = total_map is_exclusive mode_of_hold holds in let le = total_le writes (λ (h : Hold). is_exclusive h.mode) holds writes_le in g.unwritten (omega arith)
 
   -- nobody has written a word of a lock that a seat holds, where that seat hasn't
-  holder_unwritten : (id n : ℕ) (h : Hold) (m : Mode) → get_elem? holds id ≡ maybe.some h → h.mode ≡ Some m → h.wrote ≡ false → CountsHolders n (map mode_of holds) → total writes holds ≡ 0
+  holder_unwritten : (id n : ℕ) (h : Hold) (m : Mode) → get_elem? holds id ≡ maybe.some h → h.mode ≡ Some m → h.wrote ≡ false → CountsHolders n (map mode_of_hold holds) → total writes holds ≡ 0
   holder_unwritten id n h m at mine clean c = by_mode m mine
     where
-      same : total is_exclusive (map mode_of holds) ≡ total (λ (u : Hold). is_exclusive u.mode) holds
-      same = total_map is_exclusive mode_of holds
+      same : total is_exclusive (map mode_of_hold holds) ≡ total (λ (u : Hold). is_exclusive u.mode) holds
+      same = total_map is_exclusive mode_of_hold holds
 
       by_mode : (m : Mode) → h.mode ≡ Some m → total writes holds ≡ 0
-      by_mode Shared e = let gap = total_gap writes (λ (u : Hold). is_exclusive u.mode) holds id h writes_le at in let part = total_at is_shared (map mode_of holds) id (Some Shared) (at_map mode_of holds id h at ∙ ap maybe.some e) in
+      by_mode Shared e = let gap = total_gap writes (λ (u : Hold). is_exclusive u.mode) holds id h writes_le at in let part = total_at is_shared (map mode_of_hold holds) id (Some Shared) (at_map mode_of_hold holds id h at ∙ ap maybe.some e) in
           let no : is_exclusive h.mode ≡ 0 = ap is_exclusive e in let w : writes h ≡ 0 = ap one_where clean in let sum = same in let alone = c.alone in
-          dite (ℕ_discrete (total is_exclusive (map mode_of holds)) 0) (λ free. omega arith) (λ some. let one = alone (omega arith) in absurd (omega arith))
-      by_mode Exclusive e = let gap = total_gap writes (λ (u : Hold). is_exclusive u.mode) holds id h writes_le at in let part = total_at is_exclusive (map mode_of holds) id (Some Exclusive) (at_map mode_of holds id h at ∙ ap maybe.some e) in
+          dite (ℕ_discrete (total is_exclusive (map mode_of_hold holds)) 0) (λ free. omega arith) (λ some. let one = alone (omega arith) in absurd (omega arith))
+      by_mode Exclusive e = let gap = total_gap writes (λ (u : Hold). is_exclusive u.mode) holds id h writes_le at in let part = total_at is_exclusive (map mode_of_hold holds) id (Some Exclusive) (at_map mode_of_hold holds id h at ∙ ap maybe.some e) in
           let yes : is_exclusive h.mode ≡ 1 = ap is_exclusive e in let w : writes h ≡ 0 = ap one_where clean in let sum = same in let one = c.alone (omega arith) in omega arith
 
   -- what a holder learns by a read
-  pub reads : (id k n : ℕ) (h : Hold) (m : Mode) → k < 4 → length words ≡ 4 → get_elem? holds id ≡ maybe.some h → h.mode ≡ Some m → CountsHolders n (map mode_of holds) → Reads lawful h k (get_or words k 0)
+  pub reads : (id k n : ℕ) (h : Hold) (m : Mode) → k < 4 → length words ≡ 4 → get_elem? holds id ≡ maybe.some h → h.mode ≡ Some m → CountsHolders n (map mode_of_hold holds) → Reads lawful h k (get_or words k 0)
   reads id k n h m few long at mine c = let o = g.knows id h at in let four = o.four in let x : ℕ = get_or words k 0 in let here = learnt_here h k x (omega arith) in (
     λ j e. o.right k j few e,
     here,

@@ -1,31 +1,27 @@
 -- The four words of each lock are lawful unless its holder wrote one, after each kind of step and each move.
-use Rattle.std.proofs.Common.{◌≡◌, ℕ, ◌+◌, ◌<◌, Bool, cond, List, [], ◌∷◌, ◌++◌, length, map, set, get_or, Option, None, Some, sym, refl, ap, subst, arith, get_or-set_other}
-use mathlib.Core.Logic.{dite}
+use Rattle.std.proofs.Common.{◌≡◌, ℕ, ◌+◌, ◌-◌, ◌<◌, Bool, cond, List, [], ◌∷◌, ◌++◌, length, map, set, get_or, None, Some, sym, refl, ap, ◌∙◌, subst, arith, get_or-set_other}
 use mathlib.Core.Option as maybe
-use native.Mathlib.Decide.{ℕ_discrete}
 use lib.ListN.{get_elem?}
 use lib.Seq.{set-get_or}
-use Rattle.proc_table.specs.declared.Mode.{Mode}
 use Rattle.lw_core.specs.declared.step.LwStep.{LwStep}
-use Rattle.lw_core.specs.declared.step.LwStep.TheVariants.{Load, Grant, Refuse, Sub, Peek, GuardLoad, GuardStore}
+use Rattle.lw_core.specs.declared.step.LwStep.TheVariants.{Load, Grant, Refuse, Sub, Peek, GuardLoad, GuardStore, Lock, Unlock, Flag, WaitStore, WaitLoad, Wake, Post, Look, Down, SetReleaseOk, VarLoad, VarStore}
 use Rattle.lw_core.specs.declared.view.Hold.{Hold}
 use Rattle.lw_core.specs.declared.view.Frame.TheVariants.{Trying}
 use Rattle.lw_core.specs.declared.view.View.{View}
 use Rattle.lw_core.specs.declared.view.Size.{Size}
-use Rattle.lw_core.specs.Words.{state_at, guard_at, guarded, grant_of}
-use Rattle.lw_core.specs.Machine.{LwState, outer, not_held, held, hold_in, mode_in, known_at, learnt, written, word_of, lock_of, becomes, moved, gripped, next, Allowed, after, HoldsNothing}
+use Rattle.lw_core.specs.Words.{state_at, guard_at, guarded, grant_of, grant_held}
+use Rattle.lw_core.specs.WaitLists.{home_list}
+use Rattle.lw_core.specs.Machine.{LwState, outer, not_held, held, hold_in, mode_in, known_at, learnt, written, number_of, lock_of, lock_number, IsInRange, word_of, becomes, moved, gripped, on_grant, let_go, next, Allowed, after, HoldsNothing, releasing}
 use Rattle.lw_core.specs.CountsHolders.{CountsHolders}
 use Rattle.lw_core.specs.GuardedIsLawful.{GuardedIsLawful}
 use Rattle.lw_core.specs.Told.{Reads}
 use Rattle.lw_core.specs.Rule.{EachGuardedIsLawful, Rule}
 use Rattle.lw_core.specs.Runs.{drew_one, stays, comes, both, spent, drawn, split, joined}
+use Rattle.lw_core.specs.Seats.{mode_of_hold}
 use Rattle.seat_roster.proofs.Stretches.{seen, seen_more, at_seen, unseen, for_same, map_twice}
 use Rattle.lw_core.proofs.Guarding.{guarded_granted, guarded_released, guarded_learnt, guarded_written, guarded_more, guarded_spent, reads, learnt_here}
-use Rattle.lw_core.proofs.Touches.{on_exchange, some_mode, hold_here, hold_else, word_of_lock, guarded_same, guarded_at, guarded_off, guarded_set, fresh_hold}
+use Rattle.lw_core.proofs.Touches.{on_exchange, on_lock, some_mode, hold_here, hold_else, word_apart, guarded_same, guarded_at, guarded_off, guarded_set, fresh_hold, guarded_off_var}
 use Rattle.lw_core.proofs.Places as places
-
-abbrev mode_of : Hold → Option Mode
-mode_of h = h.mode
 
 module _ (lawful : ℕ → List ℕ → Type 0) (z : Size) (s : LwState) (r : Rule lawful z s) (id : ℕ) (v : View) (at : get_elem? s.views id ≡ maybe.some v) where
   -- the four words of l and the seat's hold of it are what they were
@@ -44,36 +40,52 @@ module _ (lawful : ℕ → List ℕ → Type 0) (z : Size) (s : LwState) (r : Ru
   seen_hold : (l : ℕ) → get_elem? (map (hold_in l) s.views) id ≡ maybe.some (hold_in l v)
   seen_hold l = at_seen (hold_in l) s.views id v (hold_in l v) at refl
 
-  pub counts_modes : (l : ℕ) → l < z.locks → CountsHolders (get_or s.words (state_at l) 0) (map mode_of (map (hold_in l) s.views))
-  counts_modes l below = subst (CountsHolders (get_or s.words (state_at l) 0)) (sym (map_twice mode_of (hold_in l) s.views)) (r.counts l below)
+  pub counts_modes : (l : ℕ) → l < z.locks → CountsHolders (get_or s.words (state_at l) 0) (map mode_of_hold (map (hold_in l) s.views))
+  counts_modes l below = subst (CountsHolders (get_or s.words (state_at l) 0)) (sym (map_twice mode_of_hold (hold_in l) s.views)) (r.counts l below)
 
   -- the lock that the step is on
-  here : (k : LwStep) → lock_of k < z.locks → (v.own ≡ None → ⊥) → Allowed lawful k v → let n = get_or s.words (word_of k) 0 in
-      GuardedIsLawful (lawful (lock_of k)) (guarded (set s.words (word_of k) (becomes k v n)) (lock_of k)) (map (hold_in (lock_of k)) (set s.views id (next k v n)))
-  here (Load l b) below numbered ok = same l _ _ below (guarded_off s.words l _ l) refl
-  here (Grant l m w) below numbered ok = let n : ℕ = get_or s.words (state_at l) 0 in let k : LwStep = Grant l m w in let now = places.tries lawful z s r id v at l w m ok.0 in
-      on_exchange n w (λ (b : Bool). GuardedIsLawful (lawful l) (guarded (set s.words (state_at l) (cond b (w + grant_of m) n)) l) (map (hold_in l) (set s.views id (cond b (gripped v k n (outer v.place) (held m) (v.grants + 1)) (moved v k n (Trying l m n ∷ outer v.place))))))
-      (λ hit. other l _ (guarded s.words l) (held m) _ (guarded_off s.words l (w + grant_of m) l) (hold_here v k n (outer v.place) (held m) (v.grants + 1) (inside_holds l below))
+  here : (k : LwStep) → lock_of k ≡ Some (lock_number k) → lock_number k < z.locks → (v.own ≡ None → ⊥) → Allowed lawful k v → let n = get_or s.words (word_of z (number_of v.own) k) 0 in
+      GuardedIsLawful (lawful (lock_number k)) (guarded (set s.words (word_of z (number_of v.own) k) (becomes k v n)) (lock_number k)) (map (hold_in (lock_number k)) (set s.views id (next k v n (home_list s.homes (lock_number k)))))
+  here (Grant l m w) on below numbered ok = let n : ℕ = get_or s.words (state_at l) 0 in let k : LwStep = Grant l m w in let now = places.tries lawful z s r id v at l w m ok.0 in
+      on_exchange n w (λ (b : Bool). GuardedIsLawful (lawful l) (guarded (set s.words (state_at l) (cond b (w + grant_of m) n)) l) (map (hold_in l) (set s.views id (cond b (gripped v k l n (on_grant v.surplus (outer v.place)) (held m) (v.grants + 1)) (moved v k n (Trying l m n ∷ outer v.place))))))
+      (λ hit. other l _ (guarded s.words l) (held m) _ (guarded_off s.words l (w + grant_of m) l) (hold_here v k l n (on_grant v.surplus (outer v.place)) (held m) (v.grants + 1) (inside_holds l below))
       (guarded_granted (lawful l) (guarded s.words l) (map (hold_in l) s.views) (r.guarded l below) id (hold_in l v) m (seen_hold l) now.0))
       (λ miss. same l _ _ below (guarded_off s.words l n l) refl)
-  here (Refuse l m w) below numbered ok = same l _ _ below (guarded_off s.words l _ l) refl
-  here (Sub l b) below numbered ok = other l _ (guarded s.words l) not_held _ (guarded_off s.words l _ l) (hold_here v (Sub l b) (get_or s.words (state_at l) 0) v.place not_held v.grants (inside_holds l below))
+  here (Sub l b) on below numbered ok = let n : ℕ = get_or s.words (state_at l) 0 in other l _ (guarded s.words l) not_held _ (guarded_off s.words l _ l) (hold_here v (Sub l b) l n (let_go l (n - grant_held (mode_in l v)) (releasing b v.place)) not_held v.grants (inside_holds l below))
       (guarded_released (lawful l) (guarded s.words l) (map (hold_in l) s.views) (r.guarded l below) id (hold_in l v) refl (seen_hold l) ok.1)
-  here (Peek l b) below numbered ok = same l _ _ below (guarded_off s.words l _ l) refl
-  here (GuardLoad l k) below numbered ok = let n : ℕ = get_or s.words (guard_at l k) 0 in let is = some_mode (mode_in l v) ok.2 in
-      other l (set s.words (guard_at l k) n) (guarded s.words l) (learnt (hold_in l v) k n) _ (ap (λ (x : List ℕ). guarded x l) (set-get_or s.words (guard_at l k) 0)) (hold_here v (GuardLoad l k) n v.place (learnt (hold_in l v) k n) v.grants (inside_holds l below))
+  here (GuardLoad l k) on below numbered ok = let n : ℕ = get_or s.words (guard_at l k) 0 in let is = some_mode (mode_in l v) ok.2 in
+      other l (set s.words (guard_at l k) n) (guarded s.words l) (learnt (hold_in l v) k n) _ (ap (λ (x : List ℕ). guarded x l) (set-get_or s.words (guard_at l k) 0)) (hold_here v (GuardLoad l k) l n v.place (learnt (hold_in l v) k n) v.grants (inside_holds l below))
       (subst (λ (x : ℕ). GuardedIsLawful (lawful l) (guarded s.words l) (set (map (hold_in l) s.views) id (learnt (hold_in l v) k x))) (guarded_at s.words l k ok.0)
       (guarded_learnt (lawful l) (guarded s.words l) (map (hold_in l) s.views) (r.guarded l below) id k (hold_in l v) is.0 ok.0 (seen_hold l) is.1))
-  here (GuardStore l k x) below numbered ok = let n : ℕ = get_or s.words (guard_at l k) 0 in let wide = r.sized.long in
-      other l (set s.words (guard_at l k) x) (set (guarded s.words l) k x) (written (hold_in l v) k x) _ (guarded_set s.words l k x ok.0 (omega arith)) (hold_here v (GuardStore l k x) n v.place (written (hold_in l v) k x) v.grants (inside_holds l below))
+  here (GuardStore l k x) on below numbered ok = let n : ℕ = get_or s.words (guard_at l k) 0 in let wide = r.sized.long in
+      other l (set s.words (guard_at l k) x) (set (guarded s.words l) k x) (written (hold_in l v) k x) _ (guarded_set s.words l k x ok.0 (omega arith)) (hold_here v (GuardStore l k x) l n v.place (written (hold_in l v) k x) v.grants (inside_holds l below))
       (guarded_written (lawful l) (guarded s.words l) (map (hold_in l) s.views) (r.guarded l below) id k x _ (hold_in l v) ok.0 refl (seen_hold l) ok.2 (counts_modes l below))
+  here (Load l b) on below numbered ok = same l _ _ below (guarded_off s.words l _ l) refl
+  here (Refuse l m w) on below numbered ok = same l _ _ below (guarded_off s.words l _ l) refl
+  here (Peek l b) on below numbered ok = same l _ _ below (guarded_off s.words l _ l) refl
+  here (Lock l b) on below numbered ok = same l _ _ below (guarded_off s.words l _ l) refl
+  here (VarLoad l) on below numbered ok = same l _ _ below (guarded_off_var s.words l _ l) refl
+  here (VarStore l x) on below numbered ok = same l _ _ below (guarded_off_var s.words l _ l) refl
+  here (Unlock l c) on below numbered ok = same l _ _ below (guarded_off s.words l _ l) refl
+  here (Flag l) on below numbered ok = same l _ _ below (guarded_off s.words l _ l) refl
+  here (Wake l w to) on below numbered ok = same l _ _ below (guarded_off s.words l _ l) refl
+  here (SetReleaseOk l) on below numbered ok = same l _ _ below (guarded_off s.words l _ l) refl
+  here (WaitStore q x) on below numbered ok = absurd (cc)
+  here WaitLoad on below numbered ok = absurd (cc)
+  here (Post q b) on below numbered ok = absurd (cc)
+  here (Look b) on below numbered ok = absurd (cc)
+  here Down on below numbered ok = absurd (cc)
 
-  pub guards_step : (k : LwStep) → lock_of k < z.locks → (v.own ≡ None → ⊥) → Allowed lawful k v → EachGuardedIsLawful lawful z (after s id v k)
-  guards_step k inside numbered ok l below = let n : ℕ = get_or s.words (word_of k) 0 in let place = word_of_lock lawful k v ok in dite (ℕ_discrete l (lock_of k))
-      (λ is. subst (λ (i : ℕ). GuardedIsLawful (lawful i) (guarded (set s.words (word_of k) (becomes k v n)) i) (map (hold_in i) (set s.views id (next k v n)))) (sym is) (here k inside numbered ok))
-      (λ ne. same l (set s.words (word_of k) (becomes k v n)) (next k v n) below
-      (guarded_same (set s.words (word_of k) (becomes k v n)) s.words l (λ j few. get_or-set_other s.words (word_of k) (guard_at l j) (becomes k v n) 0 (λ e. ne (omega arith))))
-      (hold_else k v n l ne))
+  pub guards_step : (k : LwStep) → IsInRange z k → (v.own ≡ None → ⊥) → Allowed lawful k v → EachGuardedIsLawful lawful z (after z s id v k)
+  guards_step k inside numbered ok l below =
+      let i : ℕ = word_of z (number_of v.own) k in let n : ℕ = get_or s.words i 0 in let w : View = next k v n (home_list s.homes (lock_number k)) in
+      on_lock k l (GuardedIsLawful (lawful l) (guarded (set s.words i (becomes k v n)) l) (map (hold_in l) (set s.views id w)))
+      (λ on. let here_is : lock_number k ≡ l = ap number_of on in
+      subst (λ (j : ℕ). GuardedIsLawful (lawful j) (guarded (set s.words i (becomes k v n)) j) (map (hold_in j) (set s.views id w))) here_is
+      (here k (on ∙ ap Some (sym here_is)) (subst (λ (j : ℕ). j < z.locks) (sym here_is) below) numbered ok))
+      (λ off. same l (set s.words i (becomes k v n)) w below
+      (guarded_same (set s.words i (becomes k v n)) s.words l (λ j few. get_or-set_other s.words i (guard_at l j) (becomes k v n) 0 (word_apart lawful z (number_of v.own) k v ok l below off (guard_at l j) (omega arith) (omega arith))))
+      (hold_else k v n (home_list s.homes (lock_number k)) l off))
 
   -- what a read tells
   pub reads_step : (l k : ℕ) → l < z.locks → Allowed lawful (GuardLoad l k) v → Reads (lawful l) (hold_in l v) k (get_or s.words (guard_at l k) 0)

@@ -1,12 +1,12 @@
 -- Of one lock: its word counts its holders after a grant, after a release, and with one seat more. The lists are the modes in which each seat holds it.
-use Rattle.std.proofs.Common.{◌≡◌, ◌≢◌, ℕ, ◌+◌, ◌-◌, ◌/◌, ◌%◌, ◌≤◌, true, List, [], ◌∷◌, ◌++◌, set, Option, None, Some, refl, arith}
+use Rattle.std.proofs.Common.{◌≡◌, ◌≢◌, ℕ, ◌+◌, ◌-◌, ◌/◌, ◌%◌, ◌^◌, ◌<◌, ◌≤◌, true, List, [], ◌∷◌, ◌++◌, set, Option, None, Some, refl, ◌∙◌, arith}
 use Rattle.std.proofs.lemmas.Bool.{eqb-true}
 use mathlib.Core.Option as maybe
 use lib.ListN.{get_elem?}
 use Rattle.proc_table.specs.declared.Mode.{Mode}
 use Rattle.proc_table.specs.declared.Mode.TheVariants.{Shared, Exclusive}
 use Rattle.seat_roster.specs.Totals.{total}
-use Rattle.lw_core.specs.Words.{grant_of, is_free, Conflicts}
+use Rattle.lw_core.specs.Words.{grant_of, grant_held, is_free, lock_part, Conflicts}
 use Rattle.lw_core.specs.CountsHolders.{is_shared, is_exclusive, CountsHolders}
 use Rattle.seat_roster.proofs.Totals.{total_set, total_snoc, total_at, total_two}
 
@@ -33,6 +33,12 @@ pub grant_below : (modes : Modes) (id n : ℕ) (m : Mode) → get_elem? modes id
 grant_below modes id n Shared at c = let a = total_at is_shared modes id (Some Shared) at in let part = c.counted in omega arith
 grant_below modes id n Exclusive at c = let a = total_at is_exclusive modes id (Some Exclusive) at in let part = c.counted in omega arith
 
+-- and in its lock part
+pub part_holds : (modes : Modes) (id n : ℕ) (o : Option Mode) → get_elem? modes id ≡ maybe.some o → CountsHolders n modes → grant_held o ≤ lock_part n
+part_holds modes id n None at c = omega arith
+part_holds modes id n (Some Shared) at c = let a = total_at is_shared modes id (Some Shared) at in let part = c.counted in omega arith
+part_holds modes id n (Some Exclusive) at c = let a = total_at is_exclusive modes id (Some Exclusive) at in let part = c.counted in omega arith
+
 pub counts_released : (modes : Modes) (id n : ℕ) (m : Mode) → get_elem? modes id ≡ maybe.some (Some m) → CountsHolders n modes → CountsHolders (n - grant_of m) (set modes id None)
 counts_released modes id n Shared at c =
     let a = total_set is_shared modes id (Some Shared) None at in let b = total_set is_exclusive modes id (Some Shared) None at in
@@ -40,6 +46,10 @@ counts_released modes id n Shared at c =
 counts_released modes id n Exclusive at c =
     let a = total_set is_shared modes id (Some Exclusive) None at in let b = total_set is_exclusive modes id (Some Exclusive) None at in
     let small = c.fits in let part = c.counted in let alone = c.alone in record { fits = omega arith; counted = omega arith; alone = λ some. omega arith }
+
+-- the lock part of the word stays
+pub counts_flagged : (modes : Modes) (n x : ℕ) → lock_part x ≡ lock_part n → x < 2 ^ 32 → CountsHolders n modes → CountsHolders x modes
+counts_flagged modes n x part small c = record { fits = small; counted = part ∙ c.counted; alone = c.alone }
 
 pub counts_more : (modes : Modes) (n : ℕ) → CountsHolders n modes → CountsHolders n (modes ++ None ∷ [])
 counts_more modes n c = let a = total_snoc is_shared modes None in let b = total_snoc is_exclusive modes None in let part = c.counted in let alone = c.alone in

@@ -6,17 +6,19 @@ use Rattle.lw_core.specs.declared.step.LwStep.{LwStep}
 use Rattle.lw_core.specs.declared.view.View.{View}
 use Rattle.lw_core.specs.declared.view.Size.{Size}
 use Rattle.seat_roster.specs.Roster.{Numbers, Roster, numbered, drew, gave, took}
-use Rattle.lw_core.specs.Machine.{LwState, word_of, becomes, next, Allowed, after}
+use Rattle.lw_core.specs.declared.view.Waiter.{Waiter}
+use Rattle.lw_core.specs.WaitLists.{home_list}
+use Rattle.lw_core.specs.Machine.{LwState, number_of, lock_number, word_of, becomes, next, after}
 use Rattle.lw_core.specs.Rule.{numbers_of, NumbersStand, Rule}
 use Rattle.lw_core.specs.Runs.{drew_one, stays, comes, both, spent, drawn, split, joined}
 use Rattle.seat_roster.proofs.Stretches.{frame, seen, seen_more, at_seen, for_same}
 use Rattle.seat_roster.proofs.Numbers.{roster_drew, roster_gave, roster_took}
-use Rattle.lw_core.proofs.Touches.{numbers_kept, word_of_lock}
+use Rattle.lw_core.proofs.Touches.{numbers_kept, word_past_first}
 
 module _ (lawful : ℕ → List ℕ → Type 0) (z : Size) (s : LwState) (r : Rule lawful z s) (id : ℕ) (v : View) (at : get_elem? s.views id ≡ maybe.some v) where
-  pub roster_step : (k : LwStep) → Allowed lawful k v → NumbersStand z (after s id v k)
-  roster_step k ok = let n : ℕ = get_or s.words (word_of k) 0 in let place = word_of_lock lawful k v ok in
-      frame numbers_of (Roster z.procs) s.words (word_of k) (becomes k v n) 0 s.views id v (next k v n) at (λ e. omega arith) (numbers_kept k v n) r.roster
+  pub roster_step : (k : LwStep) → NumbersStand z (after z s id v k)
+  roster_step k = let i : ℕ = word_of z (number_of v.own) k in let n : ℕ = get_or s.words i 0 in let found : List Waiter = home_list s.homes (lock_number k) in let past = word_past_first lawful z (number_of v.own) k in
+      frame numbers_of (Roster z.procs) s.words i (becomes k v n) 0 s.views id v (next k v n found) at (λ e. omega arith) (numbers_kept k v n found) r.roster
 
   pub roster_draw : v.own ≡ Some 0 → v.pending ≡ None → v.drawn + 1 < z.procs → NumbersStand z (drawn s id v)
   roster_draw zero_is free more = let wide = r.sized.long in let n : ℕ = get_or s.words 0 0 in

@@ -1,22 +1,28 @@
 -- What each kind of step leaves as it was: the numbers, what the seat has of other locks, and the words of other locks.
-use Rattle.std.proofs.Common.{◌≡◌, ◌≢◌, ℕ, zero, suc, ◌+◌, ◌<◌, ◌≤◌, eqb, Bool, true, false, cond, List, [], ◌∷◌, length, get_or, set, replicate, Option, None, Some, is_some, sym, refl, ap, subst, arith, eq-eqb, ne_eqb, get_or-set_same, get_or-set_other}
+use Rattle.std.proofs.Common.{◌≡◌, ◌≢◌, ℕ, zero, suc, ◌+◌, ◌-◌, ◌<◌, ◌≤◌, eqb, Bool, true, false, cond, List, [], ◌∷◌, length, get_or, set, replicate, Option, None, Some, is_some, sym, refl, ap, ◌∙◌, subst, arith, eq-eqb, ne_eqb, get_or-set_same, get_or-set_other}
 use mathlib.Core.Logic.{dite}
 use native.Mathlib.Decide.{ℕ_discrete}
 use Rattle.proc_table.specs.declared.Mode.{Mode}
+use Rattle.lw_core.specs.declared.step.Call.{Call}
+use Rattle.lw_core.specs.declared.step.Call.TheVariants as call
 use Rattle.lw_core.specs.declared.step.LwStep.{LwStep}
-use Rattle.lw_core.specs.declared.step.LwStep.TheVariants.{Load, Grant, Refuse, Sub, Peek, GuardLoad, GuardStore}
+use Rattle.lw_core.specs.declared.step.LwStep.TheVariants.{Load, Grant, Sub, GuardLoad, GuardStore, WaitStore, WaitLoad, Post, Look, Down}
 use Rattle.lw_core.specs.declared.view.Frame.{Frame}
+use Rattle.lw_core.specs.declared.view.Frame.TheVariants.{Releasing}
 use Rattle.lw_core.specs.declared.view.Hold.{Hold}
+use Rattle.lw_core.specs.declared.view.Size.{Size}
 use Rattle.lw_core.specs.declared.view.View.{View}
-use Rattle.lw_core.specs.Words.{state_at, guard_at, guarded}
-use Rattle.lw_core.specs.Machine.{Place, top, outer, not_held, held, hold_in, mode_in, learnt, written, lock_of, word_of, gripped, next, Allowed, fresh}
+use Rattle.lw_core.specs.declared.view.Waiter.{Waiter}
+use Rattle.lw_core.specs.Words.{state_at, var_at, guard_at, grant_held, guarded}
+use Rattle.lw_core.specs.Machine.{Place, top, outer, not_held, held, hold_in, mode_in, learnt, written, number_of, lock_of, word_of, gripped, on_grant, releasing, let_go, poked_by, next, BeginsRelease, Allowed, fresh}
+use Rattle.lw_core.specs.SeatFits.{PlaceFits}
 use Rattle.lw_core.specs.Rule.{numbers_of}
 
 -- the two cases of an exchange that expects w
 pub on_exchange : (n w : ℕ) (P : Bool → Type 0) → (n ≡ w → P true) → (n ≢ w → P false) → P (eqb n w)
 on_exchange n w P hit miss = dite (ℕ_discrete n w) (λ e. subst P (sym (eq-eqb n w e)) (hit e)) (λ ne. subst P (sym (ne_eqb n w ne)) (miss ne))
 
-either_way : {A B : Type 0} (f : A → B) (b : Bool) (x y : A) (z : B) → f x ≡ z → f y ≡ z → f (cond b x y) ≡ z
+pub either_way : {A B : Type 0} (f : A → B) (b : Bool) (x y : A) (z : B) → f x ≡ z → f y ≡ z → f (cond b x y) ≡ z
 either_way f true x y z left right = left
 either_way f false x y z left right = right
 
@@ -29,40 +35,65 @@ pub top_is : (p : Place) (f : Frame) → top p ≡ Some f → p ≡ f ∷ outer 
 top_is [] f e = absurd (cc)
 top_is (g ∷ p) f e = ap (λ (h : Frame). h ∷ p) (cc)
 
-pub numbers_kept : (k : LwStep) (v : View) (n : ℕ) → numbers_of (next k v n) ≡ numbers_of v
-numbers_kept (Load l b) v n = refl
-numbers_kept (Grant l m w) v n = either_way numbers_of (eqb n w) _ _ (numbers_of v) refl refl
-numbers_kept (Refuse l m w) v n = refl
-numbers_kept (Sub l b) v n = refl
-numbers_kept (Peek l b) v n = refl
-numbers_kept (GuardLoad l k) v n = refl
-numbers_kept (GuardStore l k x) v n = refl
+-- what a poke leaves of a view
+pub poked_keeps : {A : Type 0} (see : View → A) → ((v : View) (q : ℕ) → see (poked_by (Some (call.Poke q)) v) ≡ see v) → (b : Option Call) (v : View) → see (poked_by b v) ≡ see v
+poked_keeps see kept (Some (call.Poke q)) v = kept v q
+poked_keeps see kept (Some c) v = refl
+poked_keeps see kept None v = refl
 
-pub hold_here : (v : View) (k : LwStep) (n : ℕ) (p : Place) (h : Hold) (grants : ℕ) → lock_of k < length v.holds → hold_in (lock_of k) (gripped v k n p h grants) ≡ h
-hold_here v k n p h grants inside = get_or-set_same v.holds (lock_of k) h not_held inside
+pub numbers_kept : (k : LwStep) (v : View) (n : ℕ) (found : List Waiter) → numbers_of (next k v n found) ≡ numbers_of v
+numbers_kept (Grant l m w) v n found = either_way numbers_of (eqb n w) _ _ (numbers_of v) refl refl
+numbers_kept (Post q b) v n found = poked_keeps numbers_of (λ _ _. refl) b _
+numbers_kept k v n found = refl
 
-gripped_else : (v : View) (k : LwStep) (n : ℕ) (p : Place) (h : Hold) (grants l : ℕ) → l ≢ lock_of k → hold_in l (gripped v k n p h grants) ≡ hold_in l v
-gripped_else v k n p h grants l other = get_or-set_other v.holds (lock_of k) l h not_held other
+pub hold_here : (v : View) (k : LwStep) (l n : ℕ) (p : Place) (h : Hold) (grants : ℕ) → l < length v.holds → hold_in l (gripped v k l n p h grants) ≡ h
+hold_here v k l n p h grants inside = get_or-set_same v.holds l h not_held inside
 
-pub hold_else : (k : LwStep) (v : View) (n l : ℕ) → l ≢ lock_of k → hold_in l (next k v n) ≡ hold_in l v
-hold_else (Load i b) v n l other = refl
-hold_else (Grant i m w) v n l other = either_way (hold_in l) (eqb n w) _ _ (hold_in l v) (gripped_else v (Grant i m w) n (outer v.place) (held m) (v.grants + 1) l other) refl
-hold_else (Refuse i m w) v n l other = refl
-hold_else (Sub i b) v n l other = gripped_else v (Sub i b) n v.place not_held v.grants l other
-hold_else (Peek i b) v n l other = refl
-hold_else (GuardLoad i k) v n l other = gripped_else v (GuardLoad i k) n v.place (learnt (hold_in i v) k n) v.grants l other
-hold_else (GuardStore i k x) v n l other = gripped_else v (GuardStore i k x) n v.place (written (hold_in i v) k x) v.grants l other
+gripped_else : (v : View) (k : LwStep) (i n : ℕ) (p : Place) (h : Hold) (grants l : ℕ) → l ≢ i → hold_in l (gripped v k i n p h grants) ≡ hold_in l v
+gripped_else v k i n p h grants l other = get_or-set_other v.holds i l h not_held other
 
--- the step's word is one of its lock's
-module _ (lawful : ℕ → List ℕ → Type 0) where
-  pub word_of_lock : (k : LwStep) (v : View) → Allowed lawful k v → (state_at (lock_of k) ≤ word_of k) × (word_of k ≤ guard_at (lock_of k) 3)
-  word_of_lock (Load l b) v ok = (omega arith, omega arith)
-  word_of_lock (Grant l m w) v ok = (omega arith, omega arith)
-  word_of_lock (Refuse l m w) v ok = (omega arith, omega arith)
-  word_of_lock (Sub l b) v ok = (omega arith, omega arith)
-  word_of_lock (Peek l b) v ok = (omega arith, omega arith)
-  word_of_lock (GuardLoad l k) v ok = let few = ok.0 in (omega arith, omega arith)
-  word_of_lock (GuardStore l k x) v ok = let few = ok.0 in (omega arith, omega arith)
+-- a step leaves what the seat has of each lock that it isn't on
+pub hold_else : (k : LwStep) (v : View) (n : ℕ) (found : List Waiter) (l : ℕ) → (lock_of k ≡ Some l → ⊥) → hold_in l (next k v n found) ≡ hold_in l v
+hold_else (Grant i m w) v n found l other = either_way (hold_in l) (eqb n w) _ _ (hold_in l v) (gripped_else v (Grant i m w) i n (on_grant v.surplus (outer v.place)) (held m) (v.grants + 1) l (λ e. other (ap Some (sym e)))) refl
+hold_else (Sub i b) v n found l other = gripped_else v (Sub i b) i n (let_go i (n - grant_held (mode_in i v)) (releasing b v.place)) not_held v.grants l (λ e. other (ap Some (sym e)))
+hold_else (GuardLoad i k) v n found l other = gripped_else v (GuardLoad i k) i n v.place (learnt (hold_in i v) k n) v.grants l (λ e. other (ap Some (sym e)))
+hold_else (GuardStore i k x) v n found l other = gripped_else v (GuardStore i k x) i n v.place (written (hold_in i v) k x) v.grants l (λ e. other (ap Some (sym e)))
+hold_else (Post q b) v n found l other = poked_keeps (hold_in l) (λ _ _. refl) b _
+hold_else k v n found l other = refl
+
+-- a release goes on in no call, and the lock is held
+pub begun_release : (b : Option Call) (l : ℕ) (v : View) → PlaceFits v.holds v.surplus v.place → BeginsRelease l b v → (releasing b v.place ≡ []) × (is_some (mode_in l v) ≡ true)
+begun_release (Some (call.Release k)) l v fits ok = (ok.1, ok.2)
+begun_release (Some c) l v fits ok = absurd ok
+begun_release None l v fits ok = let now = subst (PlaceFits v.holds v.surplus) (top_is v.place (Releasing l) ok) fits in (now.2, ap is_some now.0)
+
+-- a lock is that of the step or isn't
+pub on_lock : (k : LwStep) (l : ℕ) (P : Type 0) → (lock_of k ≡ Some l → P) → ((lock_of k ≡ Some l → ⊥) → P) → P
+on_lock k l P on off = by_lock (lock_of k) refl
+  where
+    by_lock : (o : Option ℕ) → lock_of k ≡ o → P
+    by_lock None e = off (λ is. absurd (cc))
+    by_lock (Some i) e = dite (ℕ_discrete i l) (λ same. on (e ∙ ap Some same)) (λ ne. off (λ is. ne (same_some i l (sym e ∙ is))))
+      where
+        same_some : (a b : ℕ) → Some a ≡ Some b → a ≡ b
+        same_some a b e = ap number_of e
+
+-- the words of a lock that the step isn't on are other words than the step's
+module _ (lawful : ℕ → List ℕ → Type 0) (z : Size) (own : ℕ) where
+  pub word_apart : (k : LwStep) (v : View) → Allowed lawful k v → (l : ℕ) → l < z.locks → (lock_of k ≡ Some l → ⊥) → (j : ℕ) → state_at l ≤ j → j ≤ guard_at l 3 → j ≢ word_of z own k
+  word_apart (GuardLoad i k) v ok l below ne j from to e = let few = ok.0 in ne (ap Some (omega arith))
+  word_apart (GuardStore i k x) v ok l below ne j from to e = let few = ok.0 in ne (ap Some (omega arith))
+  word_apart (WaitStore q x) v ok l below ne j from to e = omega arith
+  word_apart WaitLoad v ok l below ne j from to e = omega arith
+  word_apart (Post q b) v ok l below ne j from to e = omega arith
+  word_apart (Look b) v ok l below ne j from to e = omega arith
+  word_apart Down v ok l below ne j from to e = omega arith
+  word_apart k v ok l below ne j from to e = ne (ap Some (omega arith))
+
+  -- the number that is drawn next is no step's word
+  pub word_past_first : (k : LwStep) → 0 < word_of z own k
+  word_past_first (Load i b) = omega arith
+  word_past_first k = omega arith
 
 pub guarded_same : (words others : List ℕ) (l : ℕ) → ((k : ℕ) → k < 4 → get_or words (guard_at l k) 0 ≡ get_or others (guard_at l k) 0) → guarded words l ≡ guarded others l
 guarded_same words others l same = λ i. same 0 (omega arith) i ∷ same 1 (omega arith) i ∷ same 2 (omega arith) i ∷ same 3 (omega arith) i ∷ []
@@ -77,6 +108,14 @@ guarded_at words l (suc (suc (suc (suc k)))) few = absurd (omega arith)
 -- a state word is none of the guarded ones
 pub guarded_off : (words : List ℕ) (i n l : ℕ) → guarded (set words (state_at i) n) l ≡ guarded words l
 guarded_off words i n l = guarded_same (set words (state_at i) n) words l (λ k few. get_or-set_other words (state_at i) (guard_at l k) n 0 (λ same. omega arith))
+
+-- nor is a variable
+pub guarded_off_var : (words : List ℕ) (i n l : ℕ) → guarded (set words (var_at i) n) l ≡ guarded words l
+guarded_off_var words i n l = guarded_same (set words (var_at i) n) words l (λ k few. get_or-set_other words (var_at i) (guard_at l k) n 0 (λ same. omega arith))
+
+-- nor is a word behind all locks
+pub guarded_past : (words : List ℕ) (l i n : ℕ) → guard_at l 3 < i → guarded (set words i n) l ≡ guarded words l
+guarded_past words l i n past = guarded_same (set words i n) words l (λ k few. get_or-set_other words i (guard_at l k) n 0 (λ same. omega arith))
 
 pub guarded_set : (words : List ℕ) (l k x : ℕ) → k < 4 → guard_at l 3 < length words → guarded (set words (guard_at l k) x) l ≡ set (guarded words l) k x
 guarded_set words l zero x few inside = λ i. get_or-set_same words (guard_at l 0) x 0 (omega arith) i ∷ off 1 (omega arith) i ∷ off 2 (omega arith) i ∷ off 3 (omega arith) i ∷ []

@@ -1,11 +1,11 @@
 -- The atomic operation behind each kind of step.
-use Rattle.std.specs.Prelude.{ℕ, ◌+◌, ◌-◌, ◌%◌, ◌^◌, ◌==◌, cond, List, Option, None, Some}
+use Rattle.std.specs.Prelude.{ℕ, ◌+◌, ◌-◌, ◌%◌, ◌^◌, ◌==◌, bit_and, bit_or, cond, List, Option, None, Some, Bool}
 use prog.Atomic.{either}
 use mathlib.Core.Option as maybe
 use Rattle.atomic_table.specs.Table.{Step, step, Allows}
 use Rattle.proc_table.specs.declared.Mode.{Mode}
 use Rattle.lw_core.specs.declared.step.LwStep.{LwStep}
-use Rattle.lw_core.specs.declared.step.LwStep.TheVariants.{Load, Grant, Refuse, Sub, Peek, GuardLoad, GuardStore}
+use Rattle.lw_core.specs.declared.step.LwStep.TheVariants.{Load, Grant, Refuse, Sub, Peek, GuardLoad, GuardStore, Lock, VarLoad, VarStore, Unlock, Flag, WaitStore, WaitLoad, Wake, Post, Look, Down, SetReleaseOk}
 use Rattle.lw_core.specs.declared.step.WordOp.{WordOp}
 use Rattle.lw_core.specs.declared.step.WordOp.TheVariants as op
 use Rattle.lw_core.specs.declared.view.Size.{Size}
@@ -17,8 +17,15 @@ use Rattle.lw_core.specs.Told.{Sat, does}
 abbrev pub gives : WordOp → ℕ → ℕ
 gives op.Load n = n
 gives (op.Store value) n = value
+gives (op.Add by) n = (n + by) % 2 ^ 64
 gives (op.Sub by) n = (n + (2 ^ 64 - by)) % 2 ^ 64
+gives (op.And mask) n = bit_and n mask
+gives (op.Or bits) n = bit_or n bits
 gives (op.Change old new) n = either (n == old) new n
+
+-- all bits but LOCKED, and all but LOCKED and HAS_WAITERS
+abbrev pub unlocked_mask : Bool → ℕ
+unlocked_mask clears = cond clears 0xffff_ffff_afff_ffff 0xffff_ffff_efff_ffff
 
 -- the operation of a step by a seat that has the step's lock in this mode
 abbrev pub op_of : LwStep → Option Mode → WordOp
@@ -29,16 +36,24 @@ op_of (Sub l b) o = op.Sub (grant_held o)
 op_of (Peek l b) o = op.Load
 op_of (GuardLoad l k) o = op.Load
 op_of (GuardStore l k x) o = op.Store x
+op_of (Lock l b) o = op.Or 0x1000_0000
+op_of (VarLoad l) o = op.Load
+op_of (VarStore l x) o = op.Store x
+op_of (Unlock l clears) o = op.And (unlocked_mask clears)
+op_of (Flag l) o = op.Or 0x4000_0000
+op_of (WaitStore q x) o = op.Store x
+op_of WaitLoad o = op.Load
+op_of (Wake l w to) o = op.Change w to
+op_of (Post q b) o = op.Add 1
+op_of (Look b) o = op.Load
+op_of Down o = op.Sub 1
+op_of (SetReleaseOk l) o = op.Or 0x2000_0000
 
--- the mode in which the seat has the lock after a step that found n
+-- the mode in which the seat has the step's lock after a step that found n
 abbrev pub mode_then : LwStep → Option Mode → ℕ → Option Mode
-mode_then (Load l b) o n = o
 mode_then (Grant l m w) o n = cond (n == w) (Some m) o
-mode_then (Refuse l m w) o n = o
 mode_then (Sub l b) o n = None
-mode_then (Peek l b) o n = o
-mode_then (GuardLoad l k) o n = o
-mode_then (GuardStore l k x) o n = o
+mode_then k o n = o
 
 -- no play of this table says anything of the operands
 abbrev pub about : Step Waiters
@@ -46,4 +61,4 @@ about = step 0 0 0 0 maybe.none
 
 -- what a step owes to the table: the rule is kept, and the seat's view goes on as the machine says
 abbrev pub Owes : (ℕ → List ℕ → Type 0) → Size → ℕ → ℕ → Sat → ℕ → (ℕ → ℕ) → LwStep → Type 0
-Owes lawful z slots id me word f k = Allows (Rule lawful z) slots id me word f (does lawful k about me)
+Owes lawful z slots id me word f k = Allows (Rule lawful z) slots id me word f (does lawful z k about me)

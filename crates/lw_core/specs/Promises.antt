@@ -10,25 +10,17 @@ use Rattle.lw_core.specs.declared.view.View.{View}
 use Rattle.lw_core.specs.declared.view.Size.{Size}
 use Rattle.lw_core.specs.Words.{Waiters, word_count, guarded, Conflicts, Opens}
 use Rattle.lw_core.specs.Machine.{LwState, HoldsNothing, mode_in, fresh}
+use Rattle.lw_core.specs.WaitLists.{AllEmpty}
 use Rattle.lw_core.specs.Rule.{Rule}
-use Rattle.lw_core.specs.Runs.{Steps, Draws, Splits, Joins}
+use Rattle.lw_core.specs.Runs.{Steps, Event, Turns}
 
--- a state that meets the rule, and one step of the kind k, give a state that meets the part
-abbrev pub KeptBy : (ℕ → List ℕ → Type 0) → Size → (LwState → Type 0) → LwStep → Type 0
-KeptBy lawful z Part k = (s t : LwState) (id : ℕ) → Rule lawful z s → Steps lawful z s id k t → Part t
+-- a state that meets the rule, and one step of any kind or one move, give a state that meets the part
+abbrev pub KeptByEach : (ℕ → List ℕ → Type 0) → Size → (LwState → Type 0) → Type 0
+KeptByEach lawful z Part = (s t : LwState) (e : Event) → Rule lawful z s → Turns lawful z s e t → Part t
 
-abbrev pub KeptByDraw : (ℕ → List ℕ → Type 0) → Size → (LwState → Type 0) → Type 0
-KeptByDraw lawful z Part = (s t : LwState) (id : ℕ) → Rule lawful z s → Draws z s id t → Part t
-
-abbrev pub KeptBySplit : (ℕ → List ℕ → Type 0) → Size → (LwState → Type 0) → Type 0
-KeptBySplit lawful z Part = (s t : LwState) (id : ℕ) → Rule lawful z s → Splits s id t → Part t
-
-abbrev pub KeptByJoin : (ℕ → List ℕ → Type 0) → Size → (LwState → Type 0) → Type 0
-KeptByJoin lawful z Part = (s t : LwState) (id other : ℕ) → Rule lawful z s → Joins s id other t → Part t
-
--- the state of a new table: the opening words, and seat 0
+-- the state of a new table: the opening words, lists on which nobody is, and seat 0
 abbrev pub IsOpening : Size → LwState → Type 0
-IsOpening z s = (words : List ℕ) × (lists : List Waiters) × (length words ≡ word_count z) × Opens z.locks words × (s ≡ opening {S = Waiters} words lists (fresh (Some 0)))
+IsOpening z s = (words : List ℕ) × (lists : List Waiters) × (length words ≡ word_count z) × Opens z.locks words × (length lists ≡ z.locks) × AllEmpty lists × (s ≡ opening {S = Waiters} words lists (fresh (Some 0)))
 
 -- no two backends hold one lock in conflicting modes
 abbrev pub HoldersAgree : Size → LwState → Type 0

@@ -7,7 +7,7 @@ use Rattle.lw_core.specs.declared.step.LwStep.{LwStep}
 use Rattle.lw_core.specs.declared.view.View.{View}
 use Rattle.lw_core.specs.declared.view.Size.{Size}
 use Rattle.seat_roster.specs.Roster.{listed}
-use Rattle.lw_core.specs.Machine.{LwState, HoldsNothing, lock_of, Allowed, after, fresh}
+use Rattle.lw_core.specs.Machine.{LwState, HoldsNothing, IsInRange, Allowed, after, fresh}
 
 -- the view of a seat that draws the next number; what stays of it when that number goes to a new seat; and the view of the new seat
 abbrev pub drew_one : View → View
@@ -19,9 +19,9 @@ stays v = record v { pending = None }
 abbrev pub comes : View → View
 comes v = fresh v.pending
 
--- the view of a seat that takes in another, whose view is spent then
+-- the view of a seat that takes in another, whose view is spent then. It takes over the other's numbers, whom it poked and whose `down` ended
 abbrev pub both : View → View → View
-both v w = record v { taken = v.taken ++ (listed w.own ++ w.taken) }
+both v w = record v { taken = v.taken ++ (listed w.own ++ w.taken); poked = v.poked ++ w.poked; downed = v.downed ++ w.downed }
 
 abbrev pub spent : View
 spent = fresh None
@@ -35,14 +35,14 @@ split s id v = record { words = s.words; homes = s.homes; views = slice_set s.vi
 abbrev pub joined : LwState → ℕ → View → ℕ → View → LwState
 joined s id v other w = record { words = s.words; homes = s.homes; views = slice_set (slice_set s.views id (both v w)) other spent }
 
--- the seat id, which has a number, makes the step k on one of the table's locks, where its place allows it
+-- the seat id, which has a number, makes the step k, which names a lock and a backend of the table, where its place allows it
 pub record Steps (lawful : ℕ → List ℕ → Type 0) (z : Size) (s : LwState) (id : ℕ) (k : LwStep) (t : LwState) : Type 0 where
   pub view : View
   pub at : get_elem? s.views id ≡ maybe.some view
-  pub lock : lock_of k < z.locks
+  pub range : IsInRange z k
   pub numbered : view.own ≡ None → ⊥
   pub allowed : Allowed lawful k view
-  pub is : t ≡ after s id view k
+  pub is : t ≡ after z s id view k
 
 -- seat 0 draws the next number
 pub record Draws (z : Size) (s : LwState) (id : ℕ) (t : LwState) : Type 0 where

@@ -1,5 +1,5 @@
 -- The words of the table: where each lies, and what a lock's state word says.
-use Rattle.std.specs.Prelude.{◌≡◌, ℕ, ◌+◌, ◌*◌, ◌/◌, ◌%◌, ◌<◌, ◌==◌, Bool, false, List, [], ◌∷◌, slice_index, Option, None, Some, ⊤}
+use Rattle.std.specs.Prelude.{◌≡◌, ℕ, ◌+◌, ◌-◌, ◌*◌, ◌/◌, ◌%◌, ◌<◌, ◌==◌, Bool, false, List, [], ◌∷◌, slice_index, Option, None, Some, ⊤}
 use Rattle.arrayvec.specs.ArrayVec.{ArrayVec}
 use Rattle.proc_table.specs.declared.Mode.{Mode}
 use Rattle.proc_table.specs.declared.Mode.TheVariants.{Shared, Exclusive}
@@ -45,6 +45,26 @@ grant_held (Some m) = grant_of m
 abbrev pub lock_part : ℕ → ℕ
 lock_part word = word % 0x0200_0000
 
+-- Three flags of a state word: somebody has the list in hand, a release may wake, and somebody waits
+abbrev pub locked : ℕ
+locked = 0x1000_0000
+
+abbrev pub release_ok : ℕ
+release_ok = 0x2000_0000
+
+abbrev pub has_waiters : ℕ
+has_waiters = 0x4000_0000
+
+-- 1 where the flag is set
+abbrev pub has_flag : ℕ → ℕ → ℕ
+has_flag flag word = (word / flag) % 2
+
+abbrev pub set_flag : ℕ → ℕ → ℕ
+set_flag flag word = word + flag * (1 - has_flag flag word)
+
+abbrev pub clear_flag : ℕ → ℕ → ℕ
+clear_flag flag word = word - flag * has_flag flag word
+
 -- a word is free for Exclusive where its lock part is 0, and for Shared where it has no exclusive grant
 abbrev pub is_free : Mode → ℕ → Bool
 is_free Shared word = (word / 0x0100_0000) % 2 == 0
@@ -62,4 +82,4 @@ Conflicts Shared Shared = ⊥
 
 -- the words at the start: the next number is 1, each state word has RELEASE_OK alone, and all else is 0
 abbrev pub Opens : ℕ → List ℕ → Type 0
-Opens locks words = (slice_index words 0 ≡ 1) × ((l : ℕ) → l < locks → slice_index words (state_at l) ≡ 0x2000_0000) × ((i : ℕ) → 0 < i → (i % 6 ≡ 1 → ⊥) → slice_index words i ≡ 0)
+Opens locks words = (slice_index words 0 ≡ 1) × ((l : ℕ) → l < locks → slice_index words (state_at l) ≡ 0x2000_0000) × ((i : ℕ) → 0 < i → ((l : ℕ) → l < locks → i ≡ state_at l → ⊥) → slice_index words i ≡ 0)

@@ -1,79 +1,76 @@
 //! The laws over states and over runs. Each function does nothing: its contract is the law.
-ghost use Rattle.std.specs.Prelude.{ℕ, ◌<◌, ◌≤◌, List, Option};
-ghost use Rattle.proc_table.specs.declared.Mode.{Mode};
-ghost use Rattle.lw_core.specs.declared.step.Call.{Call};
-ghost use Rattle.lw_core.specs.declared.step.LwStep.{LwStep};
-ghost use Rattle.lw_core.specs.declared.step.LwStep.TheVariants.{Load, Grant, Refuse, Sub, Peek, GuardLoad, GuardStore};
+ghost use Rattle.std.specs.Prelude.{◌<◌, ◌≤◌, List};
 ghost use Rattle.lw_core.specs.Machine.{LwState};
-ghost use Rattle.lw_core.specs.Rule.{Rule, NumbersStand, PlacesFit, EachCountsHolders, EachGuardedIsLawful};
+ghost use Rattle.lw_core.specs.Rule.{Rule, NumbersStand, PlacesFit, EachCountsHolders, EachGuardedIsLawful, EachListInOneHand, EachHandInside, EachListedOnce, EachWaitingTells, EachFlagCovers, EachReleaseOkIsOwed, EachWakeIsConserved, EachMarkerPosts, EachFreeLockIsAnswered, EachVariableIsAnnounced};
 ghost use Rattle.lw_core.specs.Runs.{Event, Run};
-ghost use Rattle.lw_core.specs.Promises.{KeptBy, KeptByDraw, KeptBySplit, KeptByJoin, IsOpening, HoldersAgree, UnheldAreLawful, LastHoldsAlone, WordsStand};
+ghost use Rattle.lw_core.specs.NoLostWake.{NoWakeIsLost, NoFreeLockIsSleptFor, NoStaleSleep};
+ghost use Rattle.lw_core.specs.Promises.{KeptByEach, IsOpening, HoldersAgree, UnheldAreLawful, LastHoldsAlone, WordsStand};
 
 use crate::rule::Guarded;
 use crate::view::Size;
 
-/// Each number below the next stands in exactly one view, after each kind of step and each move.
+/// Each number below the next stands in exactly one view.
 pub fn numbers_stand<G: Guarded>(size: Size)
-    ensures step { (k : LwStep) → KeptBy G.lawful size (NumbersStand size) k }
-    ensures draw { KeptByDraw G.lawful size (NumbersStand size) }
-    ensures split { KeptBySplit G.lawful size (NumbersStand size) }
-    ensures join { KeptByJoin G.lawful size (NumbersStand size) }
+    ensures { KeptByEach G.lawful size (NumbersStand size) }
 {}
 
-/// Each seat's place says rightly what the seat holds, after each kind of step and each move.
+/// Each seat's place says rightly what the seat holds and what is to follow.
 pub fn places_fit<G: Guarded>(size: Size)
-    ensures load { (l : ℕ) (begins : Option Call) → KeptBy G.lawful size PlacesFit (Load l begins) }
-    ensures grant { (l : ℕ) (m : Mode) (w : ℕ) → KeptBy G.lawful size PlacesFit (Grant l m w) }
-    ensures refuse { (l : ℕ) (m : Mode) (w : ℕ) → KeptBy G.lawful size PlacesFit (Refuse l m w) }
-    ensures sub { (l : ℕ) (begins : Option Call) → KeptBy G.lawful size PlacesFit (Sub l begins) }
-    ensures peek { (l : ℕ) (begins : Option Call) → KeptBy G.lawful size PlacesFit (Peek l begins) }
-    ensures guard_load { (l k : ℕ) → KeptBy G.lawful size PlacesFit (GuardLoad l k) }
-    ensures guard_store { (l k x : ℕ) → KeptBy G.lawful size PlacesFit (GuardStore l k x) }
-    ensures draw { KeptByDraw G.lawful size PlacesFit }
-    ensures split { KeptBySplit G.lawful size PlacesFit }
-    ensures join { KeptByJoin G.lawful size PlacesFit }
+    ensures { KeptByEach G.lawful size PlacesFit }
 {}
 
-/// Each lock's word counts its holders, after each kind of step and each move.
+/// Each lock's word counts its holders.
 pub fn counts_holders<G: Guarded>(size: Size)
-    ensures load { (l : ℕ) (begins : Option Call)
-        → KeptBy G.lawful size (EachCountsHolders size) (Load l begins) }
-    ensures grant { (l : ℕ) (m : Mode) (w : ℕ)
-        → KeptBy G.lawful size (EachCountsHolders size) (Grant l m w) }
-    ensures refuse { (l : ℕ) (m : Mode) (w : ℕ)
-        → KeptBy G.lawful size (EachCountsHolders size) (Refuse l m w) }
-    ensures sub { (l : ℕ) (begins : Option Call)
-        → KeptBy G.lawful size (EachCountsHolders size) (Sub l begins) }
-    ensures peek { (l : ℕ) (begins : Option Call)
-        → KeptBy G.lawful size (EachCountsHolders size) (Peek l begins) }
-    ensures guard_load { (l k : ℕ) → KeptBy G.lawful size (EachCountsHolders size) (GuardLoad l k) }
-    ensures guard_store { (l k x : ℕ)
-        → KeptBy G.lawful size (EachCountsHolders size) (GuardStore l k x) }
-    ensures draw { KeptByDraw G.lawful size (EachCountsHolders size) }
-    ensures split { KeptBySplit G.lawful size (EachCountsHolders size) }
-    ensures join { KeptByJoin G.lawful size (EachCountsHolders size) }
+    ensures { KeptByEach G.lawful size (EachCountsHolders size) }
 {}
 
-/// The words of each lock are lawful unless its holder wrote one, and known words are the
-/// table's, after each kind of step and each move.
+/// The words of each lock are lawful unless its holder wrote one, and known words are the table's.
 pub fn guarded_is_lawful<G: Guarded>(size: Size)
-    ensures load { (l : ℕ) (begins : Option Call)
-        → KeptBy G.lawful size (EachGuardedIsLawful G.lawful size) (Load l begins) }
-    ensures grant { (l : ℕ) (m : Mode) (w : ℕ)
-        → KeptBy G.lawful size (EachGuardedIsLawful G.lawful size) (Grant l m w) }
-    ensures refuse { (l : ℕ) (m : Mode) (w : ℕ)
-        → KeptBy G.lawful size (EachGuardedIsLawful G.lawful size) (Refuse l m w) }
-    ensures sub { (l : ℕ) (begins : Option Call)
-        → KeptBy G.lawful size (EachGuardedIsLawful G.lawful size) (Sub l begins) }
-    ensures peek { (l : ℕ) (begins : Option Call)
-        → KeptBy G.lawful size (EachGuardedIsLawful G.lawful size) (Peek l begins) }
-    ensures guard_load { (l k : ℕ)
-        → KeptBy G.lawful size (EachGuardedIsLawful G.lawful size) (GuardLoad l k) }
-    ensures guard_store { (l k x : ℕ)
-        → KeptBy G.lawful size (EachGuardedIsLawful G.lawful size) (GuardStore l k x) }
-    ensures draw { KeptByDraw G.lawful size (EachGuardedIsLawful G.lawful size) }
-    ensures split { KeptBySplit G.lawful size (EachGuardedIsLawful G.lawful size) }
-    ensures join { KeptByJoin G.lawful size (EachGuardedIsLawful G.lawful size) }
+    ensures { KeptByEach G.lawful size (EachGuardedIsLawful G.lawful size) }
+{}
+
+/// LOCKED is set exactly where one seat has the lock's list in hand.
+pub fn list_in_one_hand<G: Guarded>(size: Size)
+    ensures one { KeptByEach G.lawful size (EachListInOneHand size) }
+    ensures inside { KeptByEach G.lawful size (EachHandInside size) }
+{}
+
+/// A backend is on at most one list, once, and is then in a round for that lock with that want.
+pub fn listed_once<G: Guarded>(size: Size)
+    ensures { KeptByEach G.lawful size (EachListedOnce size) }
+{}
+
+/// The waiting field says whether a backend is on a list, is about to be, or was taken off.
+pub fn waiting_tells_place<G: Guarded>(size: Size)
+    ensures { KeptByEach G.lawful size (EachWaitingTells size) }
+{}
+
+/// HAS_WAITERS is set while anybody is on the list, or is about to be.
+pub fn flag_covers_list<G: Guarded>(size: Size)
+    ensures { KeptByEach G.lawful size (EachFlagCovers size) }
+{}
+
+/// Where RELEASE_OK is clear somebody who was taken off the list will set it.
+pub fn release_ok_is_owed<G: Guarded>(size: Size)
+    ensures { KeptByEach G.lawful size (EachReleaseOkIsOwed size) }
+{}
+
+/// Counts, posts owed and surplus balance the pokes and those who were taken off a list.
+pub fn wakes_are_conserved<G: Guarded>(size: Size)
+    ensures balance { KeptByEach G.lawful size (EachWakeIsConserved size) }
+    ensures markers { KeptByEach G.lawful size (EachMarkerPosts size) }
+{}
+
+/// Where nobody holds a lock, and a backend that sleeps for it is on its list, somebody is
+/// releasing it or answers for it.
+pub fn free_lock_is_answered<G: Guarded>(size: Size)
+    ensures { KeptByEach G.lawful size (EachFreeLockIsAnswered size) }
+{}
+
+/// While a backend that waits for a change of a lock's variable is on a list, RELEASE_OK is set;
+/// and where it sleeps, the variable is still the old one or somebody updates the lock.
+pub fn variable_is_announced<G: Guarded>(size: Size)
+    ensures { KeptByEach G.lawful size (EachVariableIsAnnounced size) }
 {}
 
 /// A new table meets the rule, and each run leads from a state that meets it to another.
@@ -97,4 +94,13 @@ pub fn the_rule_excludes<G: Guarded>(size: Size)
 /// Shared.
 pub fn words_stand_under_a_holder<G: Guarded>(size: Size)
     ensures { WordsStand G.lawful size }
+{}
+
+/// What the rule says of those who sleep: nobody is asleep off every list with no wake pending, nor
+/// on the list of a lock that nobody holds, releases or answers for, nor on a list for a change of
+/// a variable that was made, while nobody updates the lock.
+pub fn no_wake_is_lost<G: Guarded>(size: Size)
+    ensures pending { (s : LwState) → Rule G.lawful size s → NoWakeIsLost size s }
+    ensures answered { (s : LwState) → Rule G.lawful size s → NoFreeLockIsSleptFor size s }
+    ensures current { (s : LwState) → Rule G.lawful size s → NoStaleSleep size s }
 {}

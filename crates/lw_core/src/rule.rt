@@ -27,18 +27,22 @@ impl<G: Guarded> TableRule<Waiters, View, Size> for LwRule<G> {
     ghost first = { λ _. fresh (Some 0) };
 }
 
-/// Names the step that a call makes, for the one play of all kinds.
+/// Names the table's size and the step that a call makes, for the one play of all kinds.
 pub trait Doing {
     ghost use Rattle.lw_core.specs.declared.step.LwStep.{LwStep};
+    ghost use Rattle.lw_core.specs.declared.view.Size.{Size};
+
+    ghost size: { Size };
 
     ghost step: { LwStep };
 }
 
 impl Doing for Brand {
-    ghost use Rattle.std.specs.Prelude.{None};
-    ghost use Rattle.lw_core.specs.declared.step.LwStep.TheVariants.{Load};
+    ghost use Rattle.lw_core.specs.declared.step.LwStep.TheVariants.{WaitLoad};
 
-    ghost step = { Load 0 None };
+    ghost size = { record { locks = 1; procs = 1 } };
+
+    ghost step = { WaitLoad };
 }
 
 pub struct Does<K, G> {
@@ -48,7 +52,7 @@ pub struct Does<K, G> {
 impl<K: Doing, G: Guarded> Play<Waiters, View> for Does<K, G> {
     ghost use Rattle.lw_core.specs.Told.{does};
 
-    ghost then = { does G.lawful K.step };
+    ghost then = { does G.lawful K.size K.step };
 }
 
 pub struct Looks;

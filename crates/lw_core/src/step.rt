@@ -1,20 +1,37 @@
 //! The steps of the lock machine, and the calls that begin with one.
-ghost use Rattle.std.specs.Prelude.{◌≡◌};
+ghost use Rattle.std.specs.Prelude.{◌≡◌, ◌≤◌};
 ghost use Rattle.lw_core.specs.Machine.{exchanges, lock_of, word_of};
 ghost use Rattle.lw_core.specs.Ops.{mode_then, op_of};
+ghost use Rattle.lw_core.specs.Sending.{pokes_by};
 
-use crate::words::{grant, guarded_word, held_grant, state_word};
-use proc_table::{LockNo, Mode};
+use crate::view::Size;
+use crate::words::{
+    HAS_WAITERS, LOCKED, RELEASE_OK, grant, guarded_word, held_grant, sem_word, state_word,
+    variable_word, waiting_word,
+};
+use proc_table::{LockNo, Mode, ProcNo};
 
 /// A call that begins at a step, with its arguments.
 #[derive(Clone, Copy)]
 pub enum Call {
     /// One attempt, as in `LWLockConditionalAcquire`.
     Try(LockNo, Mode),
+    /// `LWLockAcquire`.
+    Acquire(LockNo, Mode),
+    /// `LWLockAcquireOrWait`.
+    AcquireOrWait(LockNo, Mode),
     /// `LWLockRelease`.
     Release(LockNo),
     /// `LWLockWaitForVar`, with the value that the caller has seen.
     WaitForVar(LockNo, u64),
+    /// `LWLockUpdateVar`, with the new value.
+    UpdateVar(LockNo, u64),
+    /// `LWLockReleaseClearVar`, with the value that the variable gets.
+    ReleaseClearVar(LockNo, u64),
+    /// `PGSemaphoreLock` of the own semaphore.
+    Down,
+    /// `PGSemaphoreUnlock` of a backend that nobody owes a wake.
+    Poke(ProcNo),
 }
 
 /// One step on one word. A step that can be the first of a call names the call that it begins.
@@ -34,6 +51,30 @@ pub enum LwStep {
     GuardLoad(LockNo, u32),
     /// Writes one of the lock's four guarded words; a call of its own.
     GuardStore(LockNo, u32, u64),
+    /// Sets LOCKED. Where it wasn't set the seat has the lock's list in hand.
+    Lock(LockNo, Option<Call>),
+    /// Reads the lock's variable, with the list in hand.
+    VarLoad(LockNo),
+    /// Stores the lock's variable, with the list in hand.
+    VarStore(LockNo, u64),
+    /// Clears LOCKED, and HAS_WAITERS where the flag says so. The list goes home.
+    Unlock(LockNo, bool),
+    /// Sets HAS_WAITERS.
+    Flag(LockNo),
+    /// Stores the waiting field of a backend: 0 it doesn't wait, 1 it does, 2 its wake is coming.
+    WaitStore(ProcNo, u64),
+    /// Reads the own waiting field.
+    WaitLoad,
+    /// Exchanges the state word that was found for the one after the wake. The list goes home.
+    Wake(LockNo, u64, u64),
+    /// Raises the semaphore of a backend by one.
+    Post(ProcNo, Option<Call>),
+    /// Reads the own semaphore.
+    Look(Option<Call>),
+    /// Takes the own semaphore down by one.
+    Down,
+    /// Sets RELEASE_OK.
+    SetReleaseOk(LockNo),
 }
 
 /// What a step found: the word before it, and whether an exchange took place.
@@ -48,30 +89,46 @@ pub struct LwSeen {
 pub(crate) enum WordOp {
     Load,
     Store(u64),
+    Add(u64),
     Sub(u64),
+    And(u64),
+    Or(u64),
     /// Exchanges the first for the second.
     Change(u64, u64),
 }
 
 impl LwStep {
     /// The lock that the step is on.
-    pub(crate) fn lock(&self) -> LockNo
+    pub(crate) fn lock(&self) -> Option<LockNo>
         ensures { result ≡ lock_of self.now }
     {
         match *self {
-            LwStep::Load(lock, _) => lock,
-            LwStep::Grant(lock, _, _) => lock,
-            LwStep::Refuse(lock, _, _) => lock,
-            LwStep::Sub(lock, _) => lock,
-            LwStep::Peek(lock, _) => lock,
-            LwStep::GuardLoad(lock, _) => lock,
-            LwStep::GuardStore(lock, _, _) => lock,
+            LwStep::Load(lock, _) => Some(lock),
+            LwStep::Grant(lock, _, _) => Some(lock),
+            LwStep::Refuse(lock, _, _) => Some(lock),
+            LwStep::Sub(lock, _) => Some(lock),
+            LwStep::Peek(lock, _) => Some(lock),
+            LwStep::GuardLoad(lock, _) => Some(lock),
+            LwStep::GuardStore(lock, _, _) => Some(lock),
+            LwStep::Lock(lock, _) => Some(lock),
+            LwStep::VarLoad(lock) => Some(lock),
+            LwStep::VarStore(lock, _) => Some(lock),
+            LwStep::Unlock(lock, _) => Some(lock),
+            LwStep::Flag(lock) => Some(lock),
+            LwStep::Wake(lock, _, _) => Some(lock),
+            LwStep::SetReleaseOk(lock) => Some(lock),
+            LwStep::WaitStore(_, _) => None,
+            LwStep::WaitLoad => None,
+            LwStep::Post(_, _) => None,
+            LwStep::Look(_) => None,
+            LwStep::Down => None,
         }
     }
 
-    /// The word that the step is on.
-    pub(crate) fn word(&self) -> usize
-        ensures { result ≡ word_of self.now }
+    /// The word that a step of this backend is on.
+    pub(crate) fn word(&self, size: Size, own: ProcNo) -> usize
+        requires { size.locks ≤ 200 }
+        ensures { result ≡ word_of size own self.now }
     {
         match *self {
             LwStep::Load(lock, _) => state_word(lock),
@@ -81,6 +138,18 @@ impl LwStep {
             LwStep::Peek(lock, _) => state_word(lock),
             LwStep::GuardLoad(lock, at) => guarded_word(lock, at),
             LwStep::GuardStore(lock, at, _) => guarded_word(lock, at),
+            LwStep::Lock(lock, _) => state_word(lock),
+            LwStep::VarLoad(lock) => variable_word(lock),
+            LwStep::VarStore(lock, _) => variable_word(lock),
+            LwStep::Unlock(lock, _) => state_word(lock),
+            LwStep::Flag(lock) => state_word(lock),
+            LwStep::Wake(lock, _, _) => state_word(lock),
+            LwStep::SetReleaseOk(lock) => state_word(lock),
+            LwStep::WaitStore(proc, _) => waiting_word(size, proc),
+            LwStep::WaitLoad => waiting_word(size, own),
+            LwStep::Post(proc, _) => sem_word(size, proc),
+            LwStep::Look(_) => sem_word(size, own),
+            LwStep::Down => sem_word(size, own),
         }
     }
 
@@ -96,6 +165,24 @@ impl LwStep {
             LwStep::Peek(_, _) => WordOp::Load,
             LwStep::GuardLoad(_, _) => WordOp::Load,
             LwStep::GuardStore(_, _, value) => WordOp::Store(value),
+            LwStep::Lock(_, _) => WordOp::Or(LOCKED),
+            LwStep::VarLoad(_) => WordOp::Load,
+            LwStep::VarStore(_, value) => WordOp::Store(value),
+            LwStep::Unlock(_, clears) => {
+                if clears {
+                    WordOp::And(!(LOCKED | HAS_WAITERS))
+                } else {
+                    WordOp::And(!LOCKED)
+                }
+            }
+            LwStep::Flag(_) => WordOp::Or(HAS_WAITERS),
+            LwStep::WaitStore(_, value) => WordOp::Store(value),
+            LwStep::WaitLoad => WordOp::Load,
+            LwStep::Wake(_, from, to) => WordOp::Change(from, to),
+            LwStep::Post(_, _) => WordOp::Add(1),
+            LwStep::Look(_) => WordOp::Load,
+            LwStep::Down => WordOp::Sub(1),
+            LwStep::SetReleaseOk(_) => WordOp::Or(RELEASE_OK),
         }
     }
 
@@ -107,10 +194,13 @@ impl LwStep {
             LwStep::Load(_, _) => false,
             LwStep::Grant(_, _, from) => found == from,
             LwStep::Refuse(_, _, from) => found == from,
-            LwStep::Sub(_, _) => true,
             LwStep::Peek(_, _) => false,
             LwStep::GuardLoad(_, _) => false,
-            LwStep::GuardStore(_, _, _) => true,
+            LwStep::VarLoad(_) => false,
+            LwStep::WaitLoad => false,
+            LwStep::Wake(_, from, _) => found == from,
+            LwStep::Look(_) => false,
+            _ => true,
         }
     }
 
@@ -122,6 +212,16 @@ impl LwStep {
             LwStep::Grant(_, mode, from) => { if found == from { Some(mode) } else { held } }
             LwStep::Sub(_, _) => None,
             _ => held,
+        }
+    }
+
+    /// 1 where the step pokes somebody, and else 0.
+    pub(crate) fn pokes(&self) -> u32
+        ensures { result ≡ pokes_by self.now }
+    {
+        match *self {
+            LwStep::Post(_, Some(Call::Poke(_))) => 1,
+            _ => 0,
         }
     }
 }

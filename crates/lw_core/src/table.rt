@@ -1,24 +1,30 @@
 //! A table of locks.
-ghost use Rattle.std.specs.Prelude.{◌≡◌, ◌↔◌, ℕ, ◌+◌, ◌<◌, ◌≤◌, Some, IsSome, IsOk, IsErr, IfOk, IfErr, OnOk, OnErr, List, [], length, true, false};
+ghost use Rattle.std.specs.Prelude.{◌≡◌, ◌↔◌, ℕ, ◌+◌, ◌<◌, ◌≤◌, ◌*◌, None, Some, IsSome, IsOk, IsErr, IfOk, IfErr, OnOk, OnErr, List, [], length, true, false};
 ghost use Rattle.proc_table.specs.declared.Mode.{Mode};
 ghost use Rattle.proc_table.specs.declared.Mode.TheVariants.{Exclusive};
 ghost use Rattle.lw_core.specs.declared.step.LwStep.TheVariants.{GuardLoad, GuardStore};
-ghost use Rattle.lw_core.specs.Told.{KnowsAll, Tells};
+ghost use Rattle.lw_core.specs.declared.view.Frame.TheVariants.{Asleep};
+ghost use Rattle.lw_core.specs.Ops.{about};
+ghost use Rattle.lw_core.specs.Told.{KnowsAll, Tells, does};
+ghost use Rattle.lw_core.specs.Sending.{HasSlot, IsApart, IsSending, IsTaking, ListAfter, SendsHome, held_for};
 ghost use Rattle.lw_core.specs.Runs.{drew_one, stays, both};
-ghost use Rattle.lw_core.specs.Closing.{Ends};
-ghost use Rattle.lw_core.specs.Machine.{lock_of, HoldsNothing, hold_in, known_at, learnt, written, mode_in, Allowed, next, exchanges, fresh};
+ghost use Rattle.lw_core.specs.Closing.{Ends, size_of};
+ghost use Rattle.lw_core.specs.Machine.{IsInRange, top, HoldsNothing, hold_in, known_at, learnt, written, mode_in, Allowed, next, exchanges, fresh};
 
 use crate::closed::LwClosed;
-use crate::rule::{DrawsOne, Guarded, Looks, LwRule, Newcomer, TakesIn};
-use crate::seat::LwSeat;
+use crate::rule::{Doing, DrawsOne, Guarded, Looks, LwRule, Newcomer, TakesIn};
+use crate::seat::{LwSeat, keep_mode};
 use crate::step::{LwSeen, LwStep};
 use crate::turn::turn;
 use crate::view::{Size, View, Waiters};
-use crate::words::{opening_lists, opening_words};
-use atomic_table::Table;
-use proc_table::{LockNo, NoMemory, NoMoreProcs, ProcNo};
+use crate::words::{LOCKED, opening_lists, opening_words};
+use arrayvec::ArrayVec;
+use atomic_table::{Seat, Table};
+use proc_table::{LockNo, Mode, NoMemory, NoMoreProcs, ProcNo};
 use std::alloc::Global;
 use std::marker::{Brand, Model};
+use std::mem;
+use std::sync::Wait;
 
 /// A table of locks. To a contract it is its name and its numbers of locks and backends.
 #[derive(Drop)]
@@ -57,12 +63,7 @@ impl<G: Guarded> LwTable<G> {
             unreachable!()
         };
         let table = LwTable { table, size };
-        let seat = LwSeat {
-            seat,
-            number,
-            modes: [None; 200],
-        };
-        Ok((table, seat))
+        Ok((table, LwSeat::new(seat, number)))
     }
 
     /// The number of backends that the table has room for.
@@ -70,6 +71,16 @@ impl<G: Guarded> LwTable<G> {
         ensures { result ≡ self.now.procs }
     {
         self.size.procs
+    }
+
+    /// The backend's number, which is below the number of backends.
+    pub fn proc_of(&self, seat: &LwSeat) -> ProcNo
+        requires { seat.now.table_id ≡ self.now.table_id }
+        ensures own { seat.now.view.own ≡ Some result }
+        ensures inside { result < self.now.procs }
+    {
+        prove!(seat.number.number() < self.size.procs);
+        seat.number
     }
 
     /// Draws the next number for a new seat; `from` is seat 0. Refused exactly where all numbers
@@ -96,33 +107,146 @@ impl<G: Guarded> LwTable<G> {
         };
         shared.fetch_add::<DrawsOne>(&mut from.seat, 0, 1);
         let seat = shared.split_seat::<Newcomer>(&mut from.seat);
-        Ok(LwSeat {
-            seat,
-            number,
-            modes: [None; 200],
-        })
+        Ok(LwSeat::new(seat, number))
     }
 
     /// Makes one step on one word. It answers the word before it, and whether an exchange took
-    /// place; an exchange that didn't is a retry.
+    /// place; an exchange that didn't is a retry. A step that sets LOCKED where it wasn't set takes
+    /// the lock's list in hand; one that clears it sends the list home as the seat changed it.
     pub fn step(&self, seat: &mut LwSeat, step: LwStep) -> LwSeen
         requires table { seat.old.table_id ≡ self.now.table_id }
-        requires lock { lock_of step < self.now.locks }
+        requires range { IsInRange (size_of self.now) step }
         requires allowed { Allowed G.lawful step seat.old.view }
+        requires list { SendsHome step seat.old.view seat.old.list }
         ensures table { (seat.new.table_id ≡ seat.old.table_id) × (seat.new.id ≡ seat.old.id) }
-        ensures view { seat.new.view ≡ next step seat.old.view result.old }
+        ensures view { seat.new.view ≡ next step seat.old.view result.old seat.new.list }
+        ensures list { ListAfter step result.old seat.old.list seat.new.list }
         ensures changed { result.changed ≡ exchanges step result.old }
-        ensures told { Tells G.lawful step seat.old.view result.old }
+        ensures told { Tells G.lawful (size_of self.now) step seat.old.view result.old seat.new.list }
         ensures holds { length seat.new.view.holds ≡ 200 }
+        ensures few { self.now.procs ≤ 64 }
     {
-        let lock = step.lock().number() as usize;
-        let held = seat.modes[lock];
-        let old = turn::<Brand, G>(&self.table.shared, &mut seat.seat, step, step.op(held));
-        seat.modes[lock] = step.mode_after(held, old);
+        let old = match step {
+            LwStep::Lock(lock, _) => self.take_list(seat, lock, step),
+            LwStep::Unlock(lock, _) => self.send_list(seat, lock, step),
+            LwStep::Wake(lock, _, _) => self.send_list(seat, lock, step),
+            _ => self.step_apart(seat, step),
+        };
         LwSeen {
             old,
             changed: step.exchanges(old),
         }
+    }
+
+    // Makes the step on its word. The slot of a list that goes home has it already.
+    fn make<K: Doing>(
+        &self,
+        seat: &mut Seat<Waiters, View>,
+        own: ProcNo,
+        held: Option<Mode>,
+        step: LwStep,
+    ) -> u64
+        requires table { seat.old.table_id ≡ self.now.table_id }
+        requires inside { 2 + 6 * seat.old.table_id.slots + 2 * own < seat.old.table_id.words }
+        requires range { IsInRange (size_of self.now) step }
+        requires allowed { Allowed G.lawful step seat.old.me.0 }
+        requires own { seat.old.me.0.own ≡ Some own }
+        requires held { held ≡ held_for step seat.old.me.0 }
+        requires carried { HasSlot step seat.old.me.0 seat.old.me.1 }
+        requires doing { (K.size ≡ size_of self.now) × (K.step ≡ step) }
+        ensures table { (seat.new.table_id ≡ seat.old.table_id) × (seat.new.id ≡ seat.old.id) }
+        ensures told { does G.lawful (size_of self.now) step about seat.old.me result seat.new.me }
+        ensures few { self.now.procs ≤ 64 }
+    {
+        let word = step.word(self.size, own);
+        turn::<K, G>(&self.table.shared, seat, word, step.op(held))
+    }
+
+    // Sets LOCKED. Where it wasn't set the list leaves its slot.
+    fn take_list(&self, seat: &mut LwSeat, lock: LockNo, step: LwStep) -> u64
+        requires table { seat.old.table_id ≡ self.now.table_id }
+        requires range { lock < self.now.locks }
+        requires step { IsTaking lock step }
+        requires allowed { Allowed G.lawful step seat.old.view }
+        ensures table { (seat.new.table_id ≡ seat.old.table_id) × (seat.new.id ≡ seat.old.id) }
+        ensures view { seat.new.view ≡ next step seat.old.view result seat.new.list }
+        ensures list { ListAfter step result seat.old.list seat.new.list }
+        ensures told { Tells G.lawful (size_of self.now) step seat.old.view result seat.new.list }
+        ensures holds { length seat.new.view.holds ≡ 200 }
+        ensures few { self.now.procs ≤ 64 }
+    {
+        let slot = lock.number() as usize;
+        let held = seat.mode_of(lock);
+        let old = self.make::<Brand>(&mut seat.seat, seat.number, held, step);
+        if old / LOCKED % 2 == 0 {
+            seat.list.items = self
+                .table
+                .shared
+                .exchange(&mut seat.seat, slot, ArrayVec::new());
+        }
+        old
+    }
+
+    // Puts the list into its slot and makes a step that frees it. Where an exchange fails the list
+    // is in hand again.
+    fn send_list(&self, seat: &mut LwSeat, lock: LockNo, step: LwStep) -> u64
+        requires table { seat.old.table_id ≡ self.now.table_id }
+        requires range { lock < self.now.locks }
+        requires step { IsSending lock step }
+        requires allowed { Allowed G.lawful step seat.old.view }
+        requires list { SendsHome step seat.old.view seat.old.list }
+        ensures table { (seat.new.table_id ≡ seat.old.table_id) × (seat.new.id ≡ seat.old.id) }
+        ensures view { seat.new.view ≡ next step seat.old.view result seat.new.list }
+        ensures list { ListAfter step result seat.old.list seat.new.list }
+        ensures told { Tells G.lawful (size_of self.now) step seat.old.view result seat.new.list }
+        ensures holds { length seat.new.view.holds ≡ 200 }
+        ensures few { self.now.procs ≤ 64 }
+    {
+        let slot = lock.number() as usize;
+        let held = seat.mode_of(lock);
+        let list = mem::replace(&mut seat.list.items, ArrayVec::new());
+        self.table.shared.exchange(&mut seat.seat, slot, list);
+        let old = self.make::<Brand>(&mut seat.seat, seat.number, held, step);
+        if !step.exchanges(old) {
+            seat.list.items = self
+                .table
+                .shared
+                .exchange(&mut seat.seat, slot, ArrayVec::new());
+        }
+        old
+    }
+
+    // Makes a step that moves no list.
+    fn step_apart(&self, seat: &mut LwSeat, step: LwStep) -> u64
+        requires table { seat.old.table_id ≡ self.now.table_id }
+        requires range { IsInRange (size_of self.now) step }
+        requires apart { IsApart step }
+        requires allowed { Allowed G.lawful step seat.old.view }
+        ensures table { (seat.new.table_id ≡ seat.old.table_id) × (seat.new.id ≡ seat.old.id) }
+        ensures view { seat.new.view ≡ next step seat.old.view result seat.new.list }
+        ensures list { seat.new.list ≡ seat.old.list }
+        ensures told { Tells G.lawful (size_of self.now) step seat.old.view result seat.new.list }
+        ensures holds { length seat.new.view.holds ≡ 200 }
+        ensures few { self.now.procs ≤ 64 }
+    {
+        let held = seat.held_for(&step);
+        let old = self.make::<Brand>(&mut seat.seat, seat.number, held, step);
+        keep_mode(&mut seat.modes, step.lock(), step.mode_after(held, old));
+        seat.pokes += step.pokes();
+        if let LwStep::Down = step {
+            seat.backoff.reset();
+        }
+        old
+    }
+
+    /// Gives way for a moment, where the seat's last look at its semaphore read 0. It changes
+    /// nothing; the caller looks again.
+    pub fn park<R: Wait>(&self, _rt: &R, seat: &mut LwSeat)
+        requires table { seat.old.table_id ≡ self.now.table_id }
+        requires asleep { top seat.old.view.place ≡ Some Asleep }
+        ensures { seat.new ≡ seat.old }
+    {
+        seat.backoff.snooze();
     }
 
     /// Reads one of the four words of a lock that is held.
@@ -131,7 +255,7 @@ impl<G: Guarded> LwTable<G> {
         requires lock { (lock < self.now.locks) × (at < 4) }
         requires held { (seat.old.view.place ≡ []) × IsSome (mode_in lock seat.old.view) }
         ensures table { (seat.new.table_id ≡ seat.old.table_id) × (seat.new.id ≡ seat.old.id) }
-        ensures view { seat.new.view ≡ next (GuardLoad lock at) seat.old.view result }
+        ensures view { seat.new.view ≡ next (GuardLoad lock at) seat.old.view result [] }
         ensures hold { hold_in lock seat.new.view ≡ learnt (hold_in lock seat.old.view) at result }
         ensures same { (n : ℕ) → known_at (hold_in lock seat.old.view) at ≡ Some n → result ≡ n }
         ensures known { known_at (hold_in lock seat.new.view) at ≡ Some result }
@@ -147,7 +271,7 @@ impl<G: Guarded> LwTable<G> {
         requires lock { (lock < self.now.locks) × (at < 4) }
         requires held { (seat.old.view.place ≡ []) × (mode_in lock seat.old.view ≡ Some Exclusive) }
         ensures table { (seat.new.table_id ≡ seat.old.table_id) × (seat.new.id ≡ seat.old.id) }
-        ensures view { (n : ℕ) × (seat.new.view ≡ next (GuardStore lock at value) seat.old.view n) }
+        ensures view { (n : ℕ) × (seat.new.view ≡ next (GuardStore lock at value) seat.old.view n []) }
         ensures hold { hold_in lock seat.new.view ≡ written (hold_in lock seat.old.view) at value }
         ensures known { known_at (hold_in lock seat.new.view) at ≡ Some value }
     {
@@ -167,6 +291,9 @@ impl<G: Guarded> LwTable<G> {
             seat,
             number: _,
             modes: _,
+            list: _,
+            pokes: _,
+            backoff: _,
         } = from;
         self.table.shared.join_seat::<TakesIn>(&mut into.seat, seat);
     }
@@ -183,6 +310,9 @@ impl<G: Guarded> LwTable<G> {
             seat,
             number: _,
             modes: _,
+            list: _,
+            pokes: _,
+            backoff: _,
         } = seat;
         LwClosed {
             closed: table.close_with(seat),

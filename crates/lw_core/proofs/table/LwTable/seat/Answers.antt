@@ -20,4 +20,4 @@ pub split_seat-seat-requires : goal.split_seat-seat-requires
 split_seat-seat-requires g c = let wide = c.self.invariant.words in (search rules, omega arith, splits_allowed g.G.Guarded.lawful _ _ _)
 
 pub returns-clause-empty : goal.returns-clause-empty
-returns-clause-empty g c = λ l. ap (λ (m : Sat). mode_in l m.0) c.split_seat-seat.ensures.4 ∙ fresh_mode c.fetch_add.new.seat.me.0.pending l
+returns-clause-empty g c = λ l. ap (λ t. mode_in l t.view) c.new-2.ensures ∙ (ap (λ (m : Sat). mode_in l m.0) c.split_seat-seat.ensures.4 ∙ fresh_mode c.fetch_add.new.seat.me.0.pending l)
