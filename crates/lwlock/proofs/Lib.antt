@@ -1,0 +1,4 @@
+pub mod Flags
+pub mod Waiting
+pub mod Later
+pub mod Telling

@@ -1,12 +1,24 @@
 //! What no clause says: each call once, the words of a lock from hand to hand, and two threads.
-ghost use Rattle.std.specs.Prelude.{◌≡◌, ◌<◌, ℕ, List, [], None, Some, slice_index, refl};
-ghost use Rattle.lw_core.specs.Machine.{mode_in, HoldsNothing, fresh};
+ghost use Rattle.std.specs.Prelude.{◌≡◌, ◌<◌, None, Some, slice_index, refl};
+ghost use Rattle.lw_core.specs.Machine.{fresh};
 
 use super::*;
-use lw_core::LwClosed;
-use proc_table::NoMoreProcs;
+use crate::attempt::is_free_for;
+use crate::queue::{join_list, list_is_home};
+use crate::rounds::wanted;
+use crate::wake::{left_word, locker_among, part, proc_of, wakes_after, woken};
+use arrayvec::ArrayVec;
+use lw_core::{LwClosed, LwSeen, Waiter, Want};
+use proc_table::{NoMoreProcs, ProcNo};
+use semaphore::poke;
+use std::alloc::Global;
+use std::process::Abort;
 use std::test::Fail;
 use std::thread::{Threads, join};
+
+mod or_wait;
+mod runs;
+mod threads;
 
 // Every list of words is lawful.
 struct AnyWords;
@@ -43,12 +55,12 @@ fn an_exclusive_holder_refuses_a_shared_one(rt: HostRuntime) -> Result<(), Fail>
     assert_eq!(rt; refused, Err(Held { seen: 0x2100_0000 }));
     assert_eq!(rt; first.mode_of(lock), Some(Mode::Exclusive));
     assert_eq!(rt; other.mode_of(lock), None);
-    release(&table, &mut first, lock);
+    release(&rt, &table, &mut first, lock);
     assert_eq!(rt;
         conditional_acquire(&rt, &table, &mut other, lock, Mode::Shared),
         Ok(())
     );
-    release(&table, &mut other, lock);
+    release(&rt, &table, &mut other, lock);
     table.join(&mut first, other);
     let closed = table.close(first);
     assert_eq!(rt; closed.state(lock), 0x2000_0000);
@@ -95,7 +107,7 @@ fn the_next_holder_reads_what_was_written(rt: HostRuntime) -> Result<(), Fail> {
     table.write_word(&mut first, lock, 0, 7);
     table.write_word(&mut first, lock, 1, 7);
     assert_eq!(rt; table.read_word(&mut first, lock, 1), 7);
-    release(&table, &mut first, lock);
+    release(&rt, &table, &mut first, lock);
     let Ok(()) = conditional_acquire(&rt, &table, &mut other, lock, Mode::Shared) else {
         panic!(rt; "a free lock was held")
     };
@@ -162,78 +174,5 @@ fn steps_find_the_words_of_two_shared_grants(rt: HostRuntime) -> Result<(), Fail
             0x2000_0001
         ]
     );
-    Ok(())
-}
-
-// Adds one to the lock's first word, wherever the lock is had at once, and says how often it was.
-fn count<R: Wait>(
-    rt: &R,
-    table: &LwTable<AnyWords>,
-    mut seat: LwSeat,
-    lock: LockNo,
-) -> (LwSeat, u64)
-    requires table { (seat.table_id ≡ table.now.table_id) × (lock < table.now.locks) }
-    requires idle { (seat.view.place ≡ []) × (mode_in lock seat.view ≡ None) }
-    ensures { (result.0.table_id ≡ seat.table_id) × (result.0.view.place ≡ []) }
-{
-    let mut taken = 0;
-    for _ in 0..1000u32 {
-        if let Ok(()) = conditional_acquire(rt, table, &mut seat, lock, Mode::Exclusive) {
-            let n = table.read_word(&mut seat, lock, 0);
-            table.write_word(&mut seat, lock, 0, u64::wrapping_add(n, 1));
-            release(table, &mut seat, lock);
-            taken = u64::wrapping_add(taken, 1);
-        }
-    }
-    (seat, taken)
-}
-
-// Counts by two threads: the seats again, and how often the lock was had by either.
-fn count_by_two<R: Threads + Wait + Sync>(
-    rt: &R,
-    table: &LwTable<AnyWords>,
-    first: LwSeat,
-    other: LwSeat,
-    lock: LockNo,
-) -> (LwSeat, LwSeat, u64)
-    requires table { (first.table_id ≡ table.now.table_id) × (other.table_id ≡ table.now.table_id)
-        × (lock < table.now.locks) }
-    requires first { (first.view.place ≡ []) × (mode_in lock first.view ≡ None) }
-    requires other { (other.view.place ≡ []) × (mode_in lock other.view ≡ None) }
-    ensures { (result.0.table_id ≡ first.table_id) × (result.0.view.place ≡ [])
-        × (result.1.table_id ≡ other.table_id) × (result.1.view.place ≡ []) }
-{
-    let (one, two) = join(
-        rt,
-        move ||
-            requires { (first.table_id ≡ table.now.table_id) × (lock < table.now.locks)
-                × (first.view.place ≡ []) × (mode_in lock first.view ≡ None) }
-            ensures { (result.0.table_id ≡ first.table_id) × (result.0.view.place ≡ []) }
-        { count(rt, table, first, lock) },
-        move ||
-            requires { (other.table_id ≡ table.now.table_id) × (lock < table.now.locks)
-                × (other.view.place ≡ []) × (mode_in lock other.view ≡ None) }
-            ensures { (result.0.table_id ≡ other.table_id) × (result.0.view.place ≡ []) }
-        { count(rt, table, other, lock) },
-    );
-    (one.0, two.0, u64::wrapping_add(one.1, two.1))
-}
-
-#[test]
-fn two_threads_count_each_grant_once(rt: HostRuntime) -> Result<(), Fail> {
-    let lock = LockNo::new(1).ok_or("a lock")?;
-    let Ok((table, mut first)) = LwTable::<AnyWords>::new(rt.alloc(), 2, 2) else {
-        panic!(rt; "no memory")
-    };
-    let Ok(other) = table.seat(&mut first) else {
-        panic!(rt; "no number")
-    };
-    let (mut first, other, taken) = count_by_two(&rt, &table, first, other, lock);
-    assert!(rt; first.holds_nothing() && other.holds_nothing());
-    table.join(&mut first, other);
-    let closed = table.close(first);
-    assert_eq!(rt; closed.word(lock, 0), taken);
-    assert!(rt; taken > 0);
-    assert_eq!(rt; closed.state(lock), 0x2000_0000);
     Ok(())
 }

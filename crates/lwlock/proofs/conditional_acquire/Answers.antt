@@ -3,7 +3,7 @@ use Rattle.lw_core.specs.declared.step.Call.TheVariants.{Try}
 use Rattle.lw_core.specs.declared.step.LwStep.TheVariants.{Load, Refuse}
 use Rattle.lw_core.specs.declared.view.Made.{Made}
 use Rattle.lw_core.specs.declared.view.View.{View}
-use Rattle.lw_core.specs.Machine.{made, outer}
+use Rattle.lw_core.specs.Machine.{made, on_refusal, outer}
 use Rattle.lwlock.specs.Calls.{went}
 use Rattle.lwlock.proofs.conditional_acquire.Goals as goal
 
@@ -16,7 +16,7 @@ returns-in-Err-clause-view g c =
       refused.0,
       (
         first ∷ refused.1.0,
-        refused.1.1 ∙ (ap (λ (u : View). went u (outer u.place) rest) c.step-word.ensures.view ∙ (λ i. record v { place = c.requires.idle i; steps = append_assoc v.steps (first ∷ []) rest i })),
+        refused.1.1 ∙ (ap (λ (u : View). went u (on_refusal (outer u.place)) rest) c.step-word.ensures.view ∙ (λ i. record v { place = on_refusal (c.requires.idle i); steps = append_assoc v.steps (first ∷ []) rest i })),
       ),
     )
 

@@ -2,8 +2,9 @@ use Rattle.std.proofs.Common.{◌≡◌, ◌<◌, ◌^◌, List, Some}
 use Rattle.lw_core.specs.declared.view.Made.{Made}
 use Rattle.lw_core.specs.declared.view.Frame.TheVariants.{Trying}
 use Rattle.lw_core.specs.Machine.{top, outer}
+use Rattle.semaphore.specs.Calls.{StoresNone}
 use Rattle.lwlock.specs.Calls.{went}
-use Rattle.lwlock.proofs.attempt.Given as goal
+use Rattle.lwlock.proofs.attempt.attempt.Given as goal
 
 abbrev pub invariant-loop : goal.invariant-loop
 invariant-loop g l = record {
@@ -12,4 +13,5 @@ invariant-loop g l = record {
   place : top l.seat.view.place ≡ Some (Trying l.lock l.mode l.word);
   outer : outer l.seat.view.place ≡ outer l.fn.seat.view.place;
   view : (more : List Made) × (l.seat.view ≡ went l.fn.seat.view l.seat.view.place more);
+  stores : StoresNone l.fn.seat.view l.seat.view;
 }

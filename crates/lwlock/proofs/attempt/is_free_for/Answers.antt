@@ -4,7 +4,7 @@ use mathlib.Core.Logic.{dite}
 use native.Mathlib.Decide.{ℕ_discrete}
 use Rattle.proc_table.specs.declared.Mode.{Mode}
 use Rattle.lw_core.specs.Words.{is_free}
-use Rattle.lwlock.proofs.is_free_for.Goals as goal
+use Rattle.lwlock.proofs.attempt.is_free_for.Goals as goal
 
 -- a word has the exclusive bit where its masked part isn't 0
 exclusive_bit : (w : ℕ) → eqb (bit_and w 16777216) 0 ≡ eqb ((w / 16777216) % 2) 0
