@@ -10,8 +10,9 @@ use Rattle.atomic_table.specs.Table as table
 use Rattle.atomic_table.proofs.Lists.{set_again, set_else}
 use Rattle.proc_table.specs.declared.Mode.{Mode}
 use Rattle.proc_table.specs.declared.Mode.TheVariants.{Shared, Exclusive}
+use Rattle.lw_core.specs.declared.step.GuardOp.TheVariants as guard
 use Rattle.lw_core.specs.declared.step.LwStep.{LwStep}
-use Rattle.lw_core.specs.declared.step.LwStep.TheVariants.{Grant, Refuse, Sub, Lock, Unlock, Flag, Wake, Post, Down, SetReleaseOk}
+use Rattle.lw_core.specs.declared.step.LwStep.TheVariants.{Grant, Refuse, Sub, Guard, Lock, Unlock, Flag, Wake, Post, Down, SetReleaseOk}
 use Rattle.lw_core.specs.declared.step.WordOp.{WordOp}
 use Rattle.lw_core.specs.declared.view.View.{View}
 use Rattle.lw_core.specs.declared.view.Size.{Size}
@@ -143,6 +144,7 @@ operates (Wake l w to) v n h = on_exchange n w (λ (b : Bool). either b to n ≡
 operates (Post q b) v n h = omega arith
 operates Down v n h = subtracts n 1 h.1 h.0
 operates (SetReleaseOk l) v n h = or_ok n
+operates (Guard l k guard.Load) v n h = refl
 operates k v n h = refl
 
 -- a step of a seat, at a table whose key is its size

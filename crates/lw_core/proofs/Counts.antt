@@ -5,15 +5,15 @@ use lib.ListN.{get_elem?}
 use lib.Seq.{set-get_or}
 use Rattle.proc_table.specs.declared.Mode.{Mode}
 use Rattle.lw_core.specs.declared.step.LwStep.{LwStep}
-use Rattle.lw_core.specs.declared.step.LwStep.TheVariants.{Load, Grant, Refuse, Sub, Peek, GuardLoad, GuardStore, Lock, Unlock, Flag, WaitStore, WaitLoad, Wake, Post, Look, Down, SetReleaseOk, VarLoad, VarStore}
+use Rattle.lw_core.specs.declared.step.LwStep.TheVariants.{Load, Grant, Refuse, Sub, Peek, Guard, Lock, Unlock, Flag, Wake, Post, SetReleaseOk}
 use Rattle.lw_core.specs.declared.view.Frame.TheVariants.{Trying, Detaching}
 use Rattle.lw_core.specs.declared.view.View.{View}
 use Rattle.lw_core.specs.declared.view.Size.{Size}
 use Rattle.seat_roster.specs.Totals.{total}
 use Rattle.seat_roster.specs.Roster.{count, one_if}
-use Rattle.lw_core.specs.Words.{state_at, guard_at, grant_of, grant_held, is_free, lock_part, var_at}
+use Rattle.lw_core.specs.Words.{state_at, guard_at, grant_of, grant_held, is_free, lock_part}
 use Rattle.lw_core.specs.WaitLists.{taken_from, kept_from, home_list}
-use Rattle.lw_core.specs.Machine.{LwState, Place, outer, not_held, held, hold_in, mode_in, learnt, written, number_of, lock_of, lock_number, IsInRange, word_of, becomes, moved, gripped, on_grant, let_go, detached, next, MayDetach, Allowed, after, HoldsNothing, releasing}
+use Rattle.lw_core.specs.Machine.{LwState, Place, outer, not_held, held, hold_in, mode_in, number_of, lock_of, lock_number, IsInRange, word_of, becomes, moved, gripped, on_grant, let_go, detached, next, MayDetach, Allowed, after, HoldsNothing, releasing, guard_hold, guard_becomes}
 use Rattle.lw_core.specs.CountsHolders.{is_shared, is_exclusive, CountsHolders}
 use Rattle.lw_core.specs.Rule.{numbers_of, EachCountsHolders, Rule}
 use Rattle.lw_core.specs.Runs.{drew_one, stays, comes, both, spent, drawn, split, joined}
@@ -76,13 +76,9 @@ module _ (lawful : ℕ → List ℕ → Type 0) (z : Size) (s : LwState) (r : Ru
         other l (n - grant_held (mode_in l v)) None _ below (ap mode_of_hold (hold_here v k l n (let_go l (n - grant_held (mode_in l v)) (releasing b v.place)) not_held v.grants (inside_holds l below)))
         (subst (λ (x : Option Mode). CountsHolders (n - grant_held x) (set (map (mode_in l) s.views) id None)) (sym is.1) (counts_released (map (mode_in l) s.views) id n is.0 (at_seen (mode_in l) s.views id v (Some is.0) at is.1) (r.counts l below)))
     here (Peek l b) on below numbered ok = read l _ below refl
-    here (GuardLoad l k) on below numbered ok = let n : ℕ = get_or s.words (guard_at l k) 0 in same l (set s.words (guard_at l k) n) _ below (ap (λ (x : List ℕ). get_or x (state_at l) 0) (set-get_or s.words (guard_at l k) 0))
-        (ap mode_of_hold (hold_here v (GuardLoad l k) l n v.place (learnt (hold_in l v) k n) v.grants (inside_holds l below)))
-    here (GuardStore l k x) on below numbered ok = let n : ℕ = get_or s.words (guard_at l k) 0 in same l (set s.words (guard_at l k) x) _ below (get_or-set_other s.words (guard_at l k) (state_at l) x 0 (λ e. omega arith))
-        (ap mode_of_hold (hold_here v (GuardStore l k x) l n v.place (written (hold_in l v) k x) v.grants (inside_holds l below)))
+    here (Guard l k o) on below numbered ok = let n : ℕ = get_or s.words (guard_at l k) 0 in let x : ℕ = guard_becomes o n in same l (set s.words (guard_at l k) x) _ below (get_or-set_other s.words (guard_at l k) (state_at l) x 0 (λ e. omega arith))
+        (ap mode_of_hold (hold_here v (Guard l k o) l n v.place (guard_hold o (hold_in l v) k n) v.grants (inside_holds l below)))
     here (Lock l b) on below numbered ok = flags l _ _ below refl (part_set 28 _ (omega arith)) (small_set 28 _ (omega arith) (r.counts l below).fits)
-    here (VarLoad l) on below numbered ok = let n : ℕ = get_or s.words (var_at l) 0 in same l (set s.words (var_at l) n) _ below (ap (λ (x : List ℕ). get_or x (state_at l) 0) (set-get_or s.words (var_at l) 0)) refl
-    here (VarStore l x) on below numbered ok = same l (set s.words (var_at l) x) _ below (get_or-set_other s.words (var_at l) (state_at l) x 0 (λ e. omega arith)) refl
     here (Unlock l c) on below numbered ok = flags l _ _ below refl (part_unlocked c _) (small_unlocked c _ (r.counts l below).fits)
     here (Flag l) on below numbered ok = flags l _ _ below refl (part_set 30 _ (omega arith)) (small_set 30 _ (omega arith) (r.counts l below).fits)
     here (Wake l w to) on below numbered ok = let n : ℕ = get_or s.words (state_at l) 0 in
@@ -96,11 +92,8 @@ module _ (lawful : ℕ → List ℕ → Type 0) (z : Size) (s : LwState) (r : Ru
             (subst (λ (x : ℕ). x < 2 ^ 32) (sym d.2) (small_woken (taken_from found) (kept_from found) w (subst (λ (x : ℕ). x < 2 ^ 32) hit (r.counts l below).fits)))
         woken p hit d = absurd d
     here (SetReleaseOk l) on below numbered ok = flags l _ _ below refl (part_set 29 _ (omega arith)) (small_set 29 _ (omega arith) (r.counts l below).fits)
-    here (WaitStore q x) on below numbered ok = absurd (cc)
-    here WaitLoad on below numbered ok = absurd (cc)
     here (Post q b) on below numbered ok = absurd (cc)
-    here (Look b) on below numbered ok = absurd (cc)
-    here Down on below numbered ok = absurd (cc)
+    here k on below numbered ok = let i : ℕ = word_of z (number_of v.own) k in same (lock_number k) (set s.words i _) _ below (get_or-set_other s.words i (state_at (lock_number k)) _ 0 (λ e. omega arith)) refl
 
     pub counts_step : (k : LwStep) → IsInRange z k → (v.own ≡ None → ⊥) → Allowed lawful k v → EachCountsHolders z (after z s id v k)
     counts_step k inside numbered ok l below =

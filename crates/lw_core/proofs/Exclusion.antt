@@ -7,14 +7,15 @@ use lib.ListN.{get_elem?}
 use lib.Seq.{set-get_or}
 use Rattle.proc_table.specs.declared.Mode.{Mode}
 use Rattle.proc_table.specs.declared.Mode.TheVariants.{Shared, Exclusive}
+use Rattle.lw_core.specs.declared.step.GuardOp.TheVariants as guard
 use Rattle.lw_core.specs.declared.step.LwStep.{LwStep}
-use Rattle.lw_core.specs.declared.step.LwStep.TheVariants.{Load, Grant, Refuse, Sub, Peek, GuardLoad, GuardStore, Lock, Unlock, Flag, WaitStore, WaitLoad, Wake, Post, Look, Down, SetReleaseOk, VarLoad, VarStore}
+use Rattle.lw_core.specs.declared.step.LwStep.TheVariants.{Guard}
 use Rattle.lw_core.specs.declared.view.View.{View}
 use Rattle.lw_core.specs.declared.view.Size.{Size}
 use Rattle.seat_roster.specs.Totals.{total}
 use Rattle.seat_roster.specs.Roster.{count, one_if}
-use Rattle.lw_core.specs.Words.{state_at, guard_at, waiting_at, sem_at, guarded, Conflicts}
-use Rattle.lw_core.specs.Machine.{LwState, HoldsNothing, mode_in, hold_in, number_of, IsInRange, word_of, becomes, Allowed}
+use Rattle.lw_core.specs.Words.{state_at, guard_at, guarded, Conflicts}
+use Rattle.lw_core.specs.Machine.{LwState, HoldsNothing, mode_in, hold_in, number_of, IsInRange, word_of, becomes, Allowed, guard_becomes}
 use Rattle.lw_core.specs.CountsHolders.{is_exclusive}
 use Rattle.lw_core.specs.Rule.{Rule, numbers_of}
 use Rattle.lw_core.specs.Promises.{HoldersAgree, UnheldAreLawful, LastHoldsAlone, WordsStand}
@@ -24,7 +25,7 @@ use Rattle.lw_core.proofs.Places.{mine}
 use Rattle.seat_roster.proofs.Stretches.{at_seen, map_twice}
 use Rattle.lw_core.proofs.Holders.{holders_agree}
 use Rattle.lw_core.proofs.Guarding.{lawful_unheld}
-use Rattle.lw_core.proofs.Touches.{guarded_same, guarded_off, guarded_past, some_mode, guarded_off_var}
+use Rattle.lw_core.proofs.Touches.{guarded_same, some_mode}
 
 module _ (lawful : ℕ → List ℕ → Type 0) (z : Size) where
   pub exclusion : (s : LwState) → Rule lawful z s → HoldersAgree z s
@@ -72,24 +73,8 @@ module _ (lawful : ℕ → List ℕ → Type 0) (z : Size) where
       own = number_of e.view.own
 
       by_kind : (k : LwStep) → IsInRange z k → Allowed lawful k e.view → guarded (set s.words (word_of z own k) (becomes k e.view (get_or s.words (word_of z own k) 0))) l ≡ guarded s.words l
-      by_kind (GuardLoad i j) inside ok = ap (λ (x : List ℕ). guarded x l) (set-get_or s.words (guard_at i j) 0)
-      by_kind (GuardStore i j x) inside ok = let few = ok.0 in dite (ℕ_discrete l i)
+      by_kind (Guard i j guard.Load) inside ok = ap (λ (x : List ℕ). guarded x l) (set-get_or s.words (guard_at i j) 0)
+      by_kind (Guard i j o) inside ok = let few = ok.0 in let x : ℕ = guard_becomes o (get_or s.words (guard_at i j) 0) in dite (ℕ_discrete l i)
           (λ is. absurd (nobody (ap (λ (y : ℕ). mode_in y e.view) is ∙ ok.2)))
           (λ ne. guarded_same (set s.words (guard_at i j) x) s.words l (λ y few. get_or-set_other s.words (guard_at i j) (guard_at l y) x 0 (λ same. ne (omega arith))))
-      by_kind (Load i b) inside ok = guarded_off s.words i _ l
-      by_kind (Grant i m w) inside ok = guarded_off s.words i _ l
-      by_kind (Refuse i m w) inside ok = guarded_off s.words i _ l
-      by_kind (Sub i b) inside ok = guarded_off s.words i _ l
-      by_kind (Peek i b) inside ok = guarded_off s.words i _ l
-      by_kind (Lock i b) inside ok = guarded_off s.words i _ l
-      by_kind (VarLoad i) inside ok = guarded_off_var s.words i _ l
-      by_kind (VarStore i x) inside ok = guarded_off_var s.words i _ l
-      by_kind (Unlock i c) inside ok = guarded_off s.words i _ l
-      by_kind (Flag i) inside ok = guarded_off s.words i _ l
-      by_kind (Wake i w to) inside ok = guarded_off s.words i _ l
-      by_kind (SetReleaseOk i) inside ok = guarded_off s.words i _ l
-      by_kind (WaitStore q x) inside ok = guarded_past s.words l (waiting_at z q) _ (omega arith)
-      by_kind WaitLoad inside ok = guarded_past s.words l (waiting_at z own) _ (omega arith)
-      by_kind (Post q b) inside ok = guarded_past s.words l (sem_at z q) _ (omega arith)
-      by_kind (Look b) inside ok = guarded_past s.words l (sem_at z own) _ (omega arith)
-      by_kind Down inside ok = guarded_past s.words l (sem_at z own) _ (omega arith)
+      by_kind k inside ok = guarded_same (set s.words (word_of z own k) _) s.words l (λ j few. get_or-set_other s.words (word_of z own k) (guard_at l j) _ 0 (λ e. omega arith))

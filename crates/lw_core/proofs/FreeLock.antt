@@ -14,14 +14,14 @@ use Rattle.seat_roster.specs.Roster.{Numbers}
 use Rattle.seat_roster.proofs.Stretches.{seen, seen_more, at_seen, unseen}
 use Rattle.lw_core.specs.declared.step.Call.TheVariants as call
 use Rattle.lw_core.specs.declared.step.LwStep.{LwStep}
-use Rattle.lw_core.specs.declared.step.LwStep.TheVariants.{Load, Grant, Refuse, Sub, Peek, GuardLoad, GuardStore, Lock, Unlock, Flag, WaitStore, WaitLoad, Wake, Post, Look, Down, SetReleaseOk, VarLoad, VarStore}
+use Rattle.lw_core.specs.declared.step.LwStep.TheVariants.{Load, Grant, Refuse, Sub, Peek, Guard, Lock, Unlock, Flag, WaitStore, WaitLoad, Wake, Post, Look, Down, SetReleaseOk, VarLoad, VarStore}
 use Rattle.lw_core.specs.declared.view.Frame.TheVariants.{Trying, TakingList, Spinning, Waking, Detaching, Downing}
 use Rattle.lw_core.specs.declared.view.Hold.{Hold}
 use Rattle.lw_core.specs.declared.view.Size.{Size}
 use Rattle.lw_core.specs.declared.view.View.{View}
 use Rattle.lw_core.specs.Words.{Waiters, state_at, guard_at, grant_held, is_free, lock_part, locked, release_ok, has_waiters, has_flag, var_at}
 use Rattle.lw_core.specs.WaitLists.{times, taken_from, kept_from, has_locker, home_list}
-use Rattle.lw_core.specs.Machine.{LwState, Place, outer, not_held, held, hold_in, mode_in, learnt, written, fresh, number_of, lock_number, IsInRange, word_of, becomes, moved, gripped, on_grant, on_refusal, calls_for_wake, let_go, in_hand, detached, posted, surplus_posted, next, MayTake, MayDetach, Allowed, after, HoldsNothing, releasing, taking}
+use Rattle.lw_core.specs.Machine.{LwState, Place, outer, not_held, held, hold_in, mode_in, fresh, number_of, lock_number, IsInRange, word_of, becomes, moved, gripped, on_grant, on_refusal, calls_for_wake, let_go, in_hand, detached, posted, surplus_posted, next, MayTake, MayDetach, Allowed, after, HoldsNothing, releasing, taking, guard_hold}
 use Rattle.lw_core.specs.Stances.{Stance, hand_list, hand_at, listed, queued_at, announced_at, due_at, stance_of}
 use Rattle.lw_core.specs.CountsHolders.{is_shared, is_exclusive}
 use Rattle.lw_core.specs.SeatFits.{PlaceFits}
@@ -164,9 +164,7 @@ module _ (lawful : ℕ → List ℕ → Type 0) (z : Size) (s : LwState) (r : Ru
   outcome (Peek i None) inside ok free none = let n : ℕ = get_or s.words (state_at i) 0 in goes refl (looked_on_goes l v.holds v.surplus i n v.place ok fits
       (λ blocked is. let word = stored_here i n is in let clear = free_part Shared n (ap lock_part (sym word) ∙ free) in cc))
   outcome (Peek i (Some c)) inside ok free none = absurd ok
-  outcome (GuardLoad i k) inside ok free none = let h : Hold = learnt (hold_in i v) k (get_or s.words (guard_at i k) 0) in
-      goes (dite (ℕ_discrete i l) (λ is. held_here i h is ∙ ap (λ (j : ℕ). mode_in j v) is) (λ ne. held_else i h ne)) (begun_goes l v.place v.place ok.1 (ap committed_at ok.1))
-  outcome (GuardStore i k x) inside ok free none = let h : Hold = written (hold_in i v) k x in
+  outcome (Guard i k o) inside ok free none = let h : Hold = guard_hold o (hold_in i v) k (get_or s.words (guard_at i k) 0) in
       goes (dite (ℕ_discrete i l) (λ is. held_here i h is ∙ ap (λ (j : ℕ). mode_in j v) is) (λ ne. held_else i h ne)) (begun_goes l v.place v.place ok.1 (ap committed_at ok.1))
   outcome (Lock i b) inside ok free none = let now = taking_fits b i v fits ok in goes refl (taking_goes l b i v _ ok (by_place (taking b v.place) now.0 now.1))
     where

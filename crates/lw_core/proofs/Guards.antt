@@ -3,15 +3,16 @@ use Rattle.std.proofs.Common.{◌≡◌, ℕ, ◌+◌, ◌-◌, ◌<◌, Bool, c
 use mathlib.Core.Option as maybe
 use lib.ListN.{get_elem?}
 use lib.Seq.{set-get_or}
+use Rattle.lw_core.specs.declared.step.GuardOp.TheVariants as guard
 use Rattle.lw_core.specs.declared.step.LwStep.{LwStep}
-use Rattle.lw_core.specs.declared.step.LwStep.TheVariants.{Load, Grant, Refuse, Sub, Peek, GuardLoad, GuardStore, Lock, Unlock, Flag, WaitStore, WaitLoad, Wake, Post, Look, Down, SetReleaseOk, VarLoad, VarStore}
+use Rattle.lw_core.specs.declared.step.LwStep.TheVariants.{Grant, Sub, Guard, Post}
 use Rattle.lw_core.specs.declared.view.Hold.{Hold}
 use Rattle.lw_core.specs.declared.view.Frame.TheVariants.{Trying}
 use Rattle.lw_core.specs.declared.view.View.{View}
 use Rattle.lw_core.specs.declared.view.Size.{Size}
 use Rattle.lw_core.specs.Words.{state_at, guard_at, guarded, grant_of, grant_held}
 use Rattle.lw_core.specs.WaitLists.{home_list}
-use Rattle.lw_core.specs.Machine.{LwState, outer, not_held, held, hold_in, mode_in, known_at, learnt, written, number_of, lock_of, lock_number, IsInRange, word_of, becomes, moved, gripped, on_grant, let_go, next, Allowed, after, HoldsNothing, releasing}
+use Rattle.lw_core.specs.Machine.{LwState, outer, not_held, held, hold_in, mode_in, known_at, learnt, written, number_of, lock_of, lock_number, IsInRange, word_of, becomes, moved, gripped, on_grant, let_go, next, Allowed, after, HoldsNothing, releasing, guard_becomes}
 use Rattle.lw_core.specs.CountsHolders.{CountsHolders}
 use Rattle.lw_core.specs.GuardedIsLawful.{GuardedIsLawful}
 use Rattle.lw_core.specs.Told.{Reads}
@@ -20,7 +21,7 @@ use Rattle.lw_core.specs.Runs.{drew_one, stays, comes, both, spent, drawn, split
 use Rattle.lw_core.specs.Seats.{mode_of_hold}
 use Rattle.seat_roster.proofs.Stretches.{seen, seen_more, at_seen, unseen, for_same, map_twice}
 use Rattle.lw_core.proofs.Guarding.{guarded_granted, guarded_released, guarded_learnt, guarded_written, guarded_more, guarded_spent, reads, learnt_here}
-use Rattle.lw_core.proofs.Touches.{on_exchange, on_lock, some_mode, hold_here, hold_else, word_apart, guarded_same, guarded_at, guarded_off, guarded_set, fresh_hold, guarded_off_var}
+use Rattle.lw_core.proofs.Touches.{on_exchange, on_lock, some_mode, hold_here, hold_else, word_apart, guarded_same, guarded_at, guarded_off, guarded_set, fresh_hold}
 use Rattle.lw_core.proofs.Places as places
 
 module _ (lawful : ℕ → List ℕ → Type 0) (z : Size) (s : LwState) (r : Rule lawful z s) (id : ℕ) (v : View) (at : get_elem? s.views id ≡ maybe.some v) where
@@ -53,28 +54,16 @@ module _ (lawful : ℕ → List ℕ → Type 0) (z : Size) (s : LwState) (r : Ru
       (λ miss. same l _ _ below (guarded_off s.words l n l) refl)
   here (Sub l b) on below numbered ok = let n : ℕ = get_or s.words (state_at l) 0 in other l _ (guarded s.words l) not_held _ (guarded_off s.words l _ l) (hold_here v (Sub l b) l n (let_go l (n - grant_held (mode_in l v)) (releasing b v.place)) not_held v.grants (inside_holds l below))
       (guarded_released (lawful l) (guarded s.words l) (map (hold_in l) s.views) (r.guarded l below) id (hold_in l v) refl (seen_hold l) ok.1)
-  here (GuardLoad l k) on below numbered ok = let n : ℕ = get_or s.words (guard_at l k) 0 in let is = some_mode (mode_in l v) ok.2 in
-      other l (set s.words (guard_at l k) n) (guarded s.words l) (learnt (hold_in l v) k n) _ (ap (λ (x : List ℕ). guarded x l) (set-get_or s.words (guard_at l k) 0)) (hold_here v (GuardLoad l k) l n v.place (learnt (hold_in l v) k n) v.grants (inside_holds l below))
+  here (Guard l k guard.Load) on below numbered ok = let n : ℕ = get_or s.words (guard_at l k) 0 in let is = some_mode (mode_in l v) ok.2 in
+      other l (set s.words (guard_at l k) n) (guarded s.words l) (learnt (hold_in l v) k n) _ (ap (λ (x : List ℕ). guarded x l) (set-get_or s.words (guard_at l k) 0)) (hold_here v (Guard l k guard.Load) l n v.place (learnt (hold_in l v) k n) v.grants (inside_holds l below))
       (subst (λ (x : ℕ). GuardedIsLawful (lawful l) (guarded s.words l) (set (map (hold_in l) s.views) id (learnt (hold_in l v) k x))) (guarded_at s.words l k ok.0)
       (guarded_learnt (lawful l) (guarded s.words l) (map (hold_in l) s.views) (r.guarded l below) id k (hold_in l v) is.0 ok.0 (seen_hold l) is.1))
-  here (GuardStore l k x) on below numbered ok = let n : ℕ = get_or s.words (guard_at l k) 0 in let wide = r.sized.long in
-      other l (set s.words (guard_at l k) x) (set (guarded s.words l) k x) (written (hold_in l v) k x) _ (guarded_set s.words l k x ok.0 (omega arith)) (hold_here v (GuardStore l k x) l n v.place (written (hold_in l v) k x) v.grants (inside_holds l below))
+  here (Guard l k o) on below numbered ok = let n : ℕ = get_or s.words (guard_at l k) 0 in let x : ℕ = guard_becomes o n in let wide = r.sized.long in
+      other l (set s.words (guard_at l k) x) (set (guarded s.words l) k x) (written (hold_in l v) k x) _ (guarded_set s.words l k x ok.0 (omega arith)) (hold_here v (Guard l k o) l n v.place (written (hold_in l v) k x) v.grants (inside_holds l below))
       (guarded_written (lawful l) (guarded s.words l) (map (hold_in l) s.views) (r.guarded l below) id k x _ (hold_in l v) ok.0 refl (seen_hold l) ok.2 (counts_modes l below))
-  here (Load l b) on below numbered ok = same l _ _ below (guarded_off s.words l _ l) refl
-  here (Refuse l m w) on below numbered ok = same l _ _ below (guarded_off s.words l _ l) refl
-  here (Peek l b) on below numbered ok = same l _ _ below (guarded_off s.words l _ l) refl
-  here (Lock l b) on below numbered ok = same l _ _ below (guarded_off s.words l _ l) refl
-  here (VarLoad l) on below numbered ok = same l _ _ below (guarded_off_var s.words l _ l) refl
-  here (VarStore l x) on below numbered ok = same l _ _ below (guarded_off_var s.words l _ l) refl
-  here (Unlock l c) on below numbered ok = same l _ _ below (guarded_off s.words l _ l) refl
-  here (Flag l) on below numbered ok = same l _ _ below (guarded_off s.words l _ l) refl
-  here (Wake l w to) on below numbered ok = same l _ _ below (guarded_off s.words l _ l) refl
-  here (SetReleaseOk l) on below numbered ok = same l _ _ below (guarded_off s.words l _ l) refl
-  here (WaitStore q x) on below numbered ok = absurd (cc)
-  here WaitLoad on below numbered ok = absurd (cc)
   here (Post q b) on below numbered ok = absurd (cc)
-  here (Look b) on below numbered ok = absurd (cc)
-  here Down on below numbered ok = absurd (cc)
+  here k on below numbered ok = let i : ℕ = word_of z (number_of v.own) k in let x : ℕ = becomes k v (get_or s.words i 0) in
+      same (lock_number k) (set s.words i x) _ below (guarded_same (set s.words i x) s.words (lock_number k) (λ j few. get_or-set_other s.words i (guard_at (lock_number k) j) x 0 (λ e. omega arith))) refl
 
   pub guards_step : (k : LwStep) → IsInRange z k → (v.own ≡ None → ⊥) → Allowed lawful k v → EachGuardedIsLawful lawful z (after z s id v k)
   guards_step k inside numbered ok l below =
@@ -88,7 +77,7 @@ module _ (lawful : ℕ → List ℕ → Type 0) (z : Size) (s : LwState) (r : Ru
       (hold_else k v n (home_list s.homes (lock_number k)) l off))
 
   -- what a read tells
-  pub reads_step : (l k : ℕ) → l < z.locks → Allowed lawful (GuardLoad l k) v → Reads (lawful l) (hold_in l v) k (get_or s.words (guard_at l k) 0)
+  pub reads_step : (l k : ℕ) → l < z.locks → Allowed lawful (Guard l k guard.Load) v → Reads (lawful l) (hold_in l v) k (get_or s.words (guard_at l k) 0)
   reads_step l k below ok = let is = some_mode (mode_in l v) ok.2 in subst (Reads (lawful l) (hold_in l v) k) (guarded_at s.words l k ok.0)
       (reads (lawful l) (guarded s.words l) (map (hold_in l) s.views) (r.guarded l below) id k _ (hold_in l v) is.0 ok.0 refl (seen_hold l) is.1 (counts_modes l below))
 

@@ -6,7 +6,7 @@ use Rattle.proc_table.specs.declared.Mode.{Mode}
 use Rattle.lw_core.specs.declared.step.Call.{Call}
 use Rattle.lw_core.specs.declared.step.Call.TheVariants as call
 use Rattle.lw_core.specs.declared.step.LwStep.{LwStep}
-use Rattle.lw_core.specs.declared.step.LwStep.TheVariants.{Load, Grant, Refuse, Sub, Peek, GuardLoad, GuardStore, Lock, VarLoad, VarStore, Unlock, Flag, WaitStore, WaitLoad, Wake, Post, Look, Down, SetReleaseOk}
+use Rattle.lw_core.specs.declared.step.LwStep.TheVariants.{Load, Grant, Refuse, Sub, Peek, Guard, Lock, VarLoad, VarStore, Unlock, Flag, WaitStore, WaitLoad, Wake, Post, Look, Down, SetReleaseOk}
 use Rattle.lw_core.specs.declared.view.Frame.TheVariants.{Trying, Spinning, Downing, Releasing}
 use Rattle.lw_core.specs.declared.view.Hold.{Hold}
 use Rattle.lw_core.specs.declared.view.View.{View}
@@ -14,7 +14,7 @@ use Rattle.lw_core.specs.declared.view.Size.{Size}
 use Rattle.lw_core.specs.declared.view.Waiter.{Waiter}
 use Rattle.lw_core.specs.Words.{state_at, guard_at, grant_held, locked, has_flag}
 use Rattle.lw_core.specs.WaitLists.{home_list}
-use Rattle.lw_core.specs.Machine.{LwState, Place, top, outer, not_held, held, hold_in, learnt, written, mode_in, number_of, lock_number, IsInRange, word_of, moved, gripped, next, on_grant, on_refusal, loaded, taking, releasing, in_hand, posted, surplus_posted, MayTake, BeginsAttempt, BeginsRelease, Allowed, after, fresh}
+use Rattle.lw_core.specs.Machine.{LwState, Place, top, outer, not_held, held, hold_in, mode_in, number_of, lock_number, IsInRange, word_of, moved, gripped, next, on_grant, on_refusal, loaded, taking, releasing, in_hand, posted, surplus_posted, MayTake, BeginsAttempt, BeginsRelease, Allowed, after, fresh, guard_hold}
 use Rattle.lw_core.specs.SeatFits.{Seating, PlaceFits, SeatFits, SeatsFit}
 use Rattle.lw_core.specs.Rule.{seating_of, PlacesFit, Rule}
 use Rattle.lw_core.specs.Runs.{drew_one, stays, comes, both, spent, drawn, split, joined}
@@ -116,8 +116,7 @@ module _ (lawful : ℕ → List ℕ → Type 0) (z : Size) (s : LwState) (r : Ru
     fits (Peek l (Some (call.WaitForVar i old))) inside ok = moves _ (peeked_fits v.holds v.surplus i old _ v.place (subst (λ (x : ℕ). mode_in x v ≡ None) (sym ok.0) ok.2) ok.1 (nothing_back ok.1))
     fits (Peek l None) inside ok = moves _ (looked_on_fits v.holds v.surplus l _ v.place ok mine.place)
     fits (Peek l (Some c)) inside ok = absurd ok
-    fits (GuardLoad l k) inside ok = grips v.place l (learnt (hold_in l v) k (get_or s.words (guard_at l k) 0)) (idle_fits _ v.surplus v.place ok.1 (nothing_back ok.1))
-    fits (GuardStore l k x) inside ok = grips v.place l (written (hold_in l v) k x) (idle_fits _ v.surplus v.place ok.1 (nothing_back ok.1))
+    fits (Guard l k o) inside ok = grips v.place l (guard_hold o (hold_in l v) k (get_or s.words (guard_at l k) 0)) (idle_fits _ v.surplus v.place ok.1 (nothing_back ok.1))
     fits (Lock l b) inside ok = let now = taking_fits b l v mine.place ok in moves _ (takes l (home_list s.homes l) (taking b v.place) now.0 now.1 (eqb (has_flag locked (get_or s.words (state_at l) 0)) 0))
     fits (VarLoad l) inside ok = moves _ (compared_fits v.holds v.surplus l _ v.place ok mine.place)
     fits (VarStore l x) inside ok = moves _ (published_fits v.holds v.surplus l x v.place ok mine.place)

@@ -5,7 +5,7 @@ use lib.ListN.{get_elem?}
 use Rattle.atomic_table.specs.Table.{keeps, takes, gives, homes_after, opening}
 use Rattle.proc_table.specs.declared.Mode.{Mode}
 use Rattle.lw_core.specs.declared.step.LwStep.{LwStep}
-use Rattle.lw_core.specs.declared.step.LwStep.TheVariants.{Load, Grant, Refuse, Sub, Peek, GuardLoad, GuardStore, Lock, Unlock, Flag, WaitStore, WaitLoad, Wake, Post, Look, Down, SetReleaseOk, VarLoad, VarStore}
+use Rattle.lw_core.specs.declared.step.LwStep.TheVariants.{Load, Grant, Refuse, Sub, Peek, Guard, Lock, Unlock, Flag, WaitStore, WaitLoad, Wake, Post, Look, Down, SetReleaseOk, VarLoad, VarStore}
 use Rattle.lw_core.specs.declared.view.Frame.TheVariants.{Trying, Downing}
 use Rattle.lw_core.specs.declared.view.Hold.{Hold}
 use Rattle.lw_core.specs.declared.view.View.{View}
@@ -14,7 +14,7 @@ use Rattle.lw_core.specs.declared.view.Waiter.{Waiter}
 use Rattle.seat_roster.specs.Totals.{total}
 use Rattle.lw_core.specs.Words.{Waiters, state_at, guard_at, waiting_at, sem_at, grant_held, locked, has_flag, guarded, word_count, Opens}
 use Rattle.lw_core.specs.WaitLists.{AllEmpty, IsUntilFreeFirst, times, times_with, home_of, home_list}
-use Rattle.lw_core.specs.Machine.{LwState, top, outer, not_held, held, hold_in, learnt, written, moved, gripped, on_grant, let_go, fresh, IsInRange, number_of, lock_number, mode_in, word_of, becomes, next, carried, act_of, takes_list, sends_home, as_waiters, left_at, Allowed, after, HoldsNothing, releasing}
+use Rattle.lw_core.specs.Machine.{LwState, top, outer, not_held, held, hold_in, moved, gripped, on_grant, let_go, fresh, IsInRange, number_of, lock_number, mode_in, word_of, becomes, next, carried, act_of, takes_list, sends_home, as_waiters, left_at, Allowed, after, HoldsNothing, releasing, guard_hold, guard_becomes, guard_writes}
 use Rattle.lw_core.specs.Stances.{Stance, hand_list, home_times, own_amount, downing_at, stance_of}
 use Rattle.lw_core.specs.SeatFits.{Seating, SeatFits}
 use Rattle.lw_core.specs.Told.{Tells, TellsList}
@@ -35,7 +35,7 @@ use Rattle.std.proofs.lemmas.List.{length-map}
 use Rattle.lw_core.specs.CountsHolders.{is_shared, is_exclusive}
 use Rattle.lw_core.specs.GuardedIsLawful.{Knows}
 use Rattle.lw_core.proofs.Guarding.{knows_not_held}
-use Rattle.lw_core.proofs.Touches.{hold_here, top_is, fresh_hold}
+use Rattle.lw_core.proofs.Touches.{hold_here, top_is, fresh_hold, guards_held}
 use Rattle.lw_core.proofs.Roster.{roster_step, roster_draw, roster_split, roster_join}
 use Rattle.lw_core.proofs.Places.{places_step, places_draw, places_split, places_join, fresh_fits}
 use Rattle.lw_core.proofs.Places as places
@@ -152,10 +152,8 @@ module _ (lawful : ℕ → List ℕ → Type 0) (z : Size) (s : LwState) (r : Ru
     tells (Sub l b) inside numbered ok = let n : ℕ = get_or s.words (state_at l) 0 in
         ((r.counts l inside.0).fits, hold_here v (Sub l b) l n (let_go l (n - grant_held (mode_in l v)) (releasing b v.place)) not_held v.grants (inside_holds lawful z s r id v at l inside.0))
     tells (Peek l b) inside numbered ok = ((r.counts l inside.0).fits, places.nothing_back lawful z s r id v at)
-    tells (GuardLoad l k) inside numbered ok = let n : ℕ = get_or s.words (guard_at l k) 0 in
-        (hold_here v (GuardLoad l k) l n v.place (learnt (hold_in l v) k n) v.grants (inside_holds lawful z s r id v at l inside.0), reads_step lawful z s r id v at l k inside.0 ok)
-    tells (GuardStore l k x) inside numbered ok = let n : ℕ = get_or s.words (guard_at l k) 0 in
-        (hold_here v (GuardStore l k x) l n v.place (written (hold_in l v) k x) v.grants (inside_holds lawful z s r id v at l inside.0), writes_step lawful z s r id v at l k x inside.0 ok.0)
+    tells (Guard l k o) inside numbered ok = let n : ℕ = get_or s.words (guard_at l k) 0 in
+        (hold_here v (Guard l k o) l n v.place (guard_hold o (hold_in l v) k n) v.grants (inside_holds lawful z s r id v at l inside.0), writes_step lawful z s r id v at l k (guard_becomes o n) inside.0 ok.0, reads_step lawful z s r id v at l k inside.0 (ok.0, ok.1, guards_held (guard_writes o) (mode_in l v) ok.2))
     tells (VarLoad l) inside numbered ok = tt
     tells (VarStore l x) inside numbered ok = tt
     tells (Lock l b) inside numbered ok = ((r.counts l inside.0).fits, tells_list l inside.0 numbered, places.nothing_back lawful z s r id v at)

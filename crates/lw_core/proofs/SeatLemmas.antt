@@ -12,18 +12,18 @@ use Rattle.seat_roster.specs.Roster.{Numbers}
 use Rattle.lw_core.specs.declared.step.Call.{Call}
 use Rattle.lw_core.specs.declared.step.Call.TheVariants as call
 use Rattle.lw_core.specs.declared.step.LwStep.{LwStep}
-use Rattle.lw_core.specs.declared.step.LwStep.TheVariants.{Load, Grant, Refuse, Sub, Peek, GuardLoad, GuardStore, Lock, Unlock, Flag, WaitStore, WaitLoad, Wake, Post, Look, Down, SetReleaseOk, VarLoad, VarStore}
+use Rattle.lw_core.specs.declared.step.LwStep.TheVariants.{Grant, Sub, Guard, Lock, Unlock, Wake, Post}
 use Rattle.lw_core.specs.declared.view.Frame.TheVariants.{Trying, Appending, Removing, Detaching, Returning, Calling, Unhanding}
 use Rattle.lw_core.specs.declared.view.Hold.{Hold}
 use Rattle.lw_core.specs.declared.view.View.{View}
 use Rattle.lw_core.specs.declared.view.Size.{Size}
 use Rattle.lw_core.specs.declared.view.Waiter.{Waiter}
 use Rattle.lw_core.specs.Words.{Waiters, locked, has_flag}
-use Rattle.lw_core.specs.Machine.{Place, not_held, held, hold_in, mode_in, number_of, learnt, written, outer, on_grant, moved, gripped, lock_of, lock_number, exchanges, takes_list, sends_home, as_waiters, act_of, next, MaySendHome, MayDetach, Allowed, BeginsTaking}
+use Rattle.lw_core.specs.Machine.{Place, not_held, held, hold_in, mode_in, number_of, outer, on_grant, moved, gripped, lock_of, lock_number, exchanges, takes_list, sends_home, as_waiters, act_of, next, MaySendHome, MayDetach, Allowed, BeginsTaking, guard_hold}
 use Rattle.lw_core.specs.Stances.{Hand, hand_at}
 use Rattle.lw_core.specs.Ops.{about, mode_then}
 use Rattle.lw_core.specs.Seats.{SeatView, seat_view, mode_of_hold, Carries, IsSeated}
-use Rattle.lw_core.specs.Sending.{IsTaking, IsSending, held_for, modes_then, pokes_by}
+use Rattle.lw_core.specs.Sending.{IsTaking, IsSending, mode_for, held_for, modes_then, pokes_by}
 use Rattle.lw_core.specs.Told.{Sat, lock_in_hand, HandFollows, does}
 use Rattle.lw_core.proofs.Turning.{takes_none}
 use Rattle.lw_core.proofs.Touches.{on_exchange, either_way, numbers_kept, poked_keeps}
@@ -39,30 +39,21 @@ modes_kept [] l = refl
 modes_kept (x ∷ xs) zero = refl
 modes_kept (x ∷ xs) (suc l) = λ i. x.mode ∷ modes_kept xs l i
 
+-- a step that changes no mode
+modes_stay : (o : Option ℕ) (v : View) → map mode_of_hold v.holds ≡ modes_then o (mode_for o v) (map mode_of_hold v.holds)
+modes_stay None v = refl
+modes_stay (Some l) v = modes_kept v.holds l
+
 -- the modes of the view after a step
 modes_after : (k : LwStep) (v : View) (n : ℕ) (found : List Waiter) → map mode_of_hold (next k v n found).holds ≡ modes_then (lock_of k) (mode_then k (held_for k v) n) (map mode_of_hold v.holds)
-modes_after (Load l b) v n found = modes_kept v.holds l
 modes_after (Grant l m w) v n found = on_exchange n w
     (λ (b : Bool). map mode_of_hold (cond b (gripped v (Grant l m w) l n (on_grant v.surplus (outer v.place)) (held m) (v.grants + 1)) (moved v (Grant l m w) n (Trying l m n ∷ outer v.place))).holds
     ≡ set (map mode_of_hold v.holds) l (cond b (Some m) (mode_in l v)))
     (λ _. map-set mode_of_hold v.holds l (held m)) (λ _. modes_kept v.holds l)
-modes_after (Refuse l m w) v n found = modes_kept v.holds l
 modes_after (Sub l b) v n found = map-set mode_of_hold v.holds l not_held
-modes_after (Peek l b) v n found = modes_kept v.holds l
-modes_after (GuardLoad l k) v n found = map-set mode_of_hold v.holds l (learnt (hold_in l v) k n)
-modes_after (GuardStore l k x) v n found = map-set mode_of_hold v.holds l (written (hold_in l v) k x)
-modes_after (Lock l b) v n found = modes_kept v.holds l
-modes_after (VarLoad l) v n found = modes_kept v.holds l
-modes_after (VarStore l x) v n found = modes_kept v.holds l
-modes_after (Unlock l clears) v n found = modes_kept v.holds l
-modes_after (Flag l) v n found = modes_kept v.holds l
-modes_after (WaitStore q x) v n found = refl
-modes_after WaitLoad v n found = refl
-modes_after (Wake l w to) v n found = modes_kept v.holds l
+modes_after (Guard l k o) v n found = map-set mode_of_hold v.holds l (guard_hold o (hold_in l v) k n)
 modes_after (Post q b) v n found = poked_keeps (λ (u : View). map mode_of_hold u.holds) (λ _ _. refl) b _
-modes_after (Look b) v n found = refl
-modes_after Down v n found = refl
-modes_after (SetReleaseOk l) v n found = modes_kept v.holds l
+modes_after k v n found = modes_stay (lock_of k) v
 
 -- the pokes of the view after a step
 pokes_after : (lawful : ℕ → List ℕ → Type 0) (k : LwStep) (v : View) (n : ℕ) (found : List Waiter) → Allowed lawful k v → (next k v n found).pokes ≡ v.pokes + pokes_by k

@@ -3,10 +3,11 @@ use Rattle.std.proofs.Common.{◌≡◌, ◌≢◌, ℕ, zero, suc, ◌+◌, ◌
 use mathlib.Core.Logic.{dite}
 use native.Mathlib.Decide.{ℕ_discrete}
 use Rattle.proc_table.specs.declared.Mode.{Mode}
+use Rattle.proc_table.specs.declared.Mode.TheVariants.{Exclusive}
 use Rattle.lw_core.specs.declared.step.Call.{Call}
 use Rattle.lw_core.specs.declared.step.Call.TheVariants as call
 use Rattle.lw_core.specs.declared.step.LwStep.{LwStep}
-use Rattle.lw_core.specs.declared.step.LwStep.TheVariants.{Load, Grant, Sub, GuardLoad, GuardStore, WaitStore, WaitLoad, Post, Look, Down}
+use Rattle.lw_core.specs.declared.step.LwStep.TheVariants.{Load, Grant, Sub, Guard, WaitStore, WaitLoad, Post, Look, Down}
 use Rattle.lw_core.specs.declared.view.Frame.{Frame}
 use Rattle.lw_core.specs.declared.view.Frame.TheVariants.{Releasing}
 use Rattle.lw_core.specs.declared.view.Hold.{Hold}
@@ -14,7 +15,7 @@ use Rattle.lw_core.specs.declared.view.Size.{Size}
 use Rattle.lw_core.specs.declared.view.View.{View}
 use Rattle.lw_core.specs.declared.view.Waiter.{Waiter}
 use Rattle.lw_core.specs.Words.{state_at, var_at, guard_at, grant_held, guarded}
-use Rattle.lw_core.specs.Machine.{Place, top, outer, not_held, held, hold_in, mode_in, learnt, written, number_of, lock_of, word_of, gripped, on_grant, releasing, let_go, poked_by, next, BeginsRelease, Allowed, fresh}
+use Rattle.lw_core.specs.Machine.{Place, top, outer, not_held, held, hold_in, mode_in, number_of, lock_of, word_of, gripped, on_grant, releasing, let_go, poked_by, next, BeginsRelease, Allowed, fresh, guard_hold}
 use Rattle.lw_core.specs.SeatFits.{PlaceFits}
 use Rattle.lw_core.specs.Rule.{numbers_of}
 
@@ -30,6 +31,11 @@ either_way f false x y z left right = right
 pub some_mode : (o : Option Mode) → is_some o ≡ true → (m : Mode) × (o ≡ Some m)
 some_mode None e = absurd (cc)
 some_mode (Some m) e = (m, refl)
+
+-- who may read or write a guarded word holds the lock
+pub guards_held : (b : Bool) (o : Option Mode) → cond b (o ≡ Some Exclusive) (is_some o ≡ true) → is_some o ≡ true
+guards_held true o ok = ap is_some ok
+guards_held false o ok = ok
 
 pub top_is : (p : Place) (f : Frame) → top p ≡ Some f → p ≡ f ∷ outer p
 top_is [] f e = absurd (cc)
@@ -56,8 +62,7 @@ gripped_else v k i n p h grants l other = get_or-set_other v.holds i l h not_hel
 pub hold_else : (k : LwStep) (v : View) (n : ℕ) (found : List Waiter) (l : ℕ) → (lock_of k ≡ Some l → ⊥) → hold_in l (next k v n found) ≡ hold_in l v
 hold_else (Grant i m w) v n found l other = either_way (hold_in l) (eqb n w) _ _ (hold_in l v) (gripped_else v (Grant i m w) i n (on_grant v.surplus (outer v.place)) (held m) (v.grants + 1) l (λ e. other (ap Some (sym e)))) refl
 hold_else (Sub i b) v n found l other = gripped_else v (Sub i b) i n (let_go i (n - grant_held (mode_in i v)) (releasing b v.place)) not_held v.grants l (λ e. other (ap Some (sym e)))
-hold_else (GuardLoad i k) v n found l other = gripped_else v (GuardLoad i k) i n v.place (learnt (hold_in i v) k n) v.grants l (λ e. other (ap Some (sym e)))
-hold_else (GuardStore i k x) v n found l other = gripped_else v (GuardStore i k x) i n v.place (written (hold_in i v) k x) v.grants l (λ e. other (ap Some (sym e)))
+hold_else (Guard i k o) v n found l other = gripped_else v (Guard i k o) i n v.place (guard_hold o (hold_in i v) k n) v.grants l (λ e. other (ap Some (sym e)))
 hold_else (Post q b) v n found l other = poked_keeps (hold_in l) (λ _ _. refl) b _
 hold_else k v n found l other = refl
 
@@ -81,8 +86,6 @@ on_lock k l P on off = by_lock (lock_of k) refl
 -- the words of a lock that the step isn't on are other words than the step's
 module _ (lawful : ℕ → List ℕ → Type 0) (z : Size) (own : ℕ) where
   pub word_apart : (k : LwStep) (v : View) → Allowed lawful k v → (l : ℕ) → l < z.locks → (lock_of k ≡ Some l → ⊥) → (j : ℕ) → state_at l ≤ j → j ≤ guard_at l 3 → j ≢ word_of z own k
-  word_apart (GuardLoad i k) v ok l below ne j from to e = let few = ok.0 in ne (ap Some (omega arith))
-  word_apart (GuardStore i k x) v ok l below ne j from to e = let few = ok.0 in ne (ap Some (omega arith))
   word_apart (WaitStore q x) v ok l below ne j from to e = omega arith
   word_apart WaitLoad v ok l below ne j from to e = omega arith
   word_apart (Post q b) v ok l below ne j from to e = omega arith

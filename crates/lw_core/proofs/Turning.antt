@@ -12,7 +12,7 @@ use Rattle.proc_table.specs.declared.Mode.TheVariants as mode
 use Rattle.lw_core.specs.declared.step.Call.{Call}
 use Rattle.lw_core.specs.declared.step.Call.TheVariants as call
 use Rattle.lw_core.specs.declared.step.LwStep.{LwStep}
-use Rattle.lw_core.specs.declared.step.LwStep.TheVariants.{Load, Grant, Refuse, Sub, Peek, GuardLoad, GuardStore, Lock, VarLoad, VarStore, Unlock, Flag, WaitStore, WaitLoad, Wake, Post, Look, Down, SetReleaseOk}
+use Rattle.lw_core.specs.declared.step.LwStep.TheVariants.{Load, Grant, Refuse, Sub, Peek, Guard, Lock, VarLoad, VarStore, Unlock, Flag, WaitStore, WaitLoad, Wake, Post, Look, Down, SetReleaseOk}
 use Rattle.lw_core.specs.declared.view.Frame.{Frame}
 use Rattle.lw_core.specs.declared.view.Frame.TheVariants.{Attempting, Trying, Unqueued, Queued, TakingList, Spinning, Queueing, Flagging, Announcing, Appending, Dequeueing, Checking, Removing, Withdrawing, Answering, Looking, Asleep, Downing, Sleeping, Woken, GivingBack, Waking, Marking, Detaching, Clearing, Posting, Peeking, Comparing, Reading, Returning, VarUnqueued, Allowing, VarQueued, Storing, Publishing, Calling, Unhanding, Releasing}
 use Rattle.lw_core.specs.declared.view.Hold.{Hold}
@@ -380,8 +380,7 @@ module _ (lawful : ℕ → List ℕ → Type 0) (z : Size) (words : List ℕ) (h
   turned (Peek l (Some (call.WaitForVar k old))) inside ok = stays (reads refl) refl (peeked_same v.own v.surplus v.poked v.downed k old (get_or words (state_at l) 0) v.place ok.1)
   turned (Peek l None) inside ok = stays (reads refl) refl (looked_on_same v.own v.surplus v.poked v.downed v.holds l (get_or words (state_at l) 0) v.place ok fits)
   turned (Peek l (Some c)) inside ok = absurd ok
-  turned (GuardLoad l k) inside ok = stays (reads refl) refl refl
-  turned (GuardStore l k x) inside ok = stays (guards l k inside.0 ok.0 refl) refl refl
+  turned (Guard l k o) inside ok = stays (guards l k inside.0 ok.0 refl) refl refl
   turned (Lock l b) inside ok = let now = taking_fits b l v fits ok in let same = taking_same v.own v.surplus v.poked v.downed b l v v.place refl ok in let q : Place = taking b v.place in let i : ℕ = state_at l in let n : ℕ = get_or words i 0 in let found : List Waiter = home_list homes l in
       dite (ℕ_discrete (has_flag locked n) 0)
       (λ clear. let there = home l inside.0 clear in
@@ -533,8 +532,7 @@ module _ (lawful : ℕ → List ℕ → Type 0) (z : Size) (v : View) (fits : Pl
   hand_follows (Peek l (Some (call.WaitForVar k old))) n found ok = ap lock_held (peeked_same v.own v.surplus v.poked v.downed k old n v.place ok.1)
   hand_follows (Peek l None) n found ok = ap lock_held (looked_on_same v.own v.surplus v.poked v.downed v.holds l n v.place ok fits)
   hand_follows (Peek l (Some c)) n found ok = absurd ok
-  hand_follows (GuardLoad l k) n found ok = refl
-  hand_follows (GuardStore l k x) n found ok = refl
+  hand_follows (Guard l k o) n found ok = refl
   hand_follows (Lock l b) n found ok = let now = taking_fits b l v fits ok in let same = ap lock_held (taking_same v.own v.surplus v.poked v.downed b l v v.place refl ok) in
       subst (λ (o : Option ℕ). lock_in_hand (hand_at (cond (eqb (has_flag locked n) 0) (in_hand found (outer (taking b v.place))) (Spinning l ∷ outer (taking b v.place)))) ≡ cond (eqb (has_flag locked n) 0) (Some l) o) same (by_place (taking b v.place) now.0 now.1 (eqb (has_flag locked n) 0))
     where

@@ -13,13 +13,13 @@ use Rattle.seat_roster.specs.Roster.{Numbers}
 use Rattle.seat_roster.proofs.Stretches.{seen, at_seen}
 use Rattle.lw_core.specs.declared.step.Call.TheVariants as call
 use Rattle.lw_core.specs.declared.step.LwStep.{LwStep}
-use Rattle.lw_core.specs.declared.step.LwStep.TheVariants.{Load, Grant, Refuse, Sub, Peek, GuardLoad, GuardStore, Lock, Unlock, Flag, WaitStore, WaitLoad, Wake, Post, Look, Down, SetReleaseOk, VarLoad, VarStore}
+use Rattle.lw_core.specs.declared.step.LwStep.TheVariants.{Load, Grant, Refuse, Sub, Peek, Guard, Lock, Unlock, Flag, WaitStore, WaitLoad, Wake, Post, Look, Down, SetReleaseOk, VarLoad, VarStore}
 use Rattle.lw_core.specs.declared.view.Frame.TheVariants.{Trying, Spinning, Downing, Detaching}
 use Rattle.lw_core.specs.declared.view.Size.{Size}
 use Rattle.lw_core.specs.declared.view.View.{View}
 use Rattle.lw_core.specs.declared.view.Waiter.{Waiter}
 use Rattle.lw_core.specs.declared.view.Want.TheVariants.{UntilFree}
-use Rattle.lw_core.specs.Words.{Waiters, state_at, var_at, guard_at, grant_held, locked, release_ok, has_waiters, has_flag, set_flag, word_count}
+use Rattle.lw_core.specs.Words.{Waiters, state_at, var_at, grant_held, locked, release_ok, has_waiters, has_flag, set_flag, word_count}
 use Rattle.lw_core.specs.WaitLists.{times_with, HasNoUntilFree, IsUntilFreeFirst, taken_from, kept_from, home_of, home_list}
 use Rattle.lw_core.specs.Machine.{LwState, Place, outer, held, mode_in, fresh, number_of, lock_number, IsInRange, word_of, becomes, moved, gripped, on_grant, on_refusal, calls_for_wake, in_hand, detached, posted, surplus_posted, left_at, next, carried, act_of, as_waiters, MayTake, MayDetach, Allowed, after, HoldsNothing, taking}
 use Rattle.lw_core.specs.Stances.{Stance, Hand, hand_list, hand_at, has_list, listed, entry_of, queued_at, announced_at, stance_of}
@@ -182,8 +182,7 @@ module _ (lawful : ℕ → List ℕ → Type 0) (z : Size) (s : LwState) (r : Ru
   does (Peek i (Some (call.WaitForVar j old))) inside ok = peeked_goes l _ _ _ v.surplus j old (get_or s.words (state_at i) 0) v.place ok.1
   does (Peek i None) inside ok = looked_on_goes l _ _ _ v.holds v.surplus i (get_or s.words (state_at i) 0) v.place ok fits
   does (Peek i (Some c)) inside ok = absurd ok
-  does (GuardLoad i k) inside ok = idle_goes l _ _ _ v.place v.place ok.1 refl
-  does (GuardStore i k x) inside ok = idle_goes l _ _ _ v.place v.place ok.1 refl
+  does (Guard i k o) inside ok = idle_goes l _ _ _ v.place v.place ok.1 refl
   does (Lock i b) inside ok = let now = taking_fits b i v fits ok in taking_goes l _ _ _ b i v _ ok (by_place (taking b v.place) now.0 now.1)
     where
       by_place : (p : Place) → MayTake i p → PlaceFits v.holds v.surplus p → let clear = eqb (has_flag locked (get_or s.words (state_at i) 0)) 0 in Takes (Lock i b) p (cond clear (in_hand (home_list s.homes i) (outer p)) (Spinning i ∷ outer p))
@@ -217,8 +216,6 @@ module _ (lawful : ℕ → List ℕ → Type 0) (z : Size) (s : LwState) (r : Ru
       (λ is. inr (t.1 ∙ ap Some is, ap (λ (j : ℕ). has_list j (stance_of v)) (sym is) ∙ t.0))
       (λ ne. inl (get_or-set_other s.words (var_at i) (var_at l) x 0 (λ e. ne (omega arith))))
   stores (VarLoad i) ok = inl (word_read s.words (var_at i) (get_or s.words (var_at i) 0) (var_at l) refl)
-  stores (GuardLoad i k) ok = let few = ok.0 in inl (get_or-set_other s.words (guard_at i k) (var_at l) _ 0 (λ e. omega arith))
-  stores (GuardStore i k x) ok = let few = ok.0 in inl (get_or-set_other s.words (guard_at i k) (var_at l) _ 0 (λ e. omega arith))
   stores k ok = inl (get_or-set_other s.words (word_of z (number_of v.own) k) (var_at l) _ 0 (λ e. omega arith))
 
   -- THE STEP

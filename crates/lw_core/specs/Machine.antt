@@ -5,8 +5,10 @@ use Rattle.proc_table.specs.declared.Mode.{Mode}
 use Rattle.proc_table.specs.declared.Mode.TheVariants.{Shared, Exclusive}
 use Rattle.lw_core.specs.declared.step.Call.{Call}
 use Rattle.lw_core.specs.declared.step.Call.TheVariants as call
+use Rattle.lw_core.specs.declared.step.GuardOp.{GuardOp}
+use Rattle.lw_core.specs.declared.step.GuardOp.TheVariants as guard
 use Rattle.lw_core.specs.declared.step.LwStep.{LwStep}
-use Rattle.lw_core.specs.declared.step.LwStep.TheVariants.{Load, Grant, Refuse, Sub, Peek, GuardLoad, GuardStore, Lock, VarLoad, VarStore, Unlock, Flag, WaitStore, WaitLoad, Wake, Post, Look, Down, SetReleaseOk}
+use Rattle.lw_core.specs.declared.step.LwStep.TheVariants.{Load, Grant, Refuse, Sub, Peek, Guard, Lock, VarLoad, VarStore, Unlock, Flag, WaitStore, WaitLoad, Wake, Post, Look, Down, SetReleaseOk}
 use Rattle.lw_core.specs.declared.view.Frame.{Frame}
 use Rattle.lw_core.specs.declared.view.Frame.TheVariants.{Attempting, Trying, Unqueued, Queued, TakingList, Spinning, Queueing, Flagging, Announcing, Appending, Dequeueing, Checking, Removing, Withdrawing, Answering, Looking, Asleep, Downing, Sleeping, Woken, GivingBack, Waking, Marking, Detaching, Clearing, Posting, Peeking, Comparing, Reading, Returning, VarUnqueued, Allowing, VarQueued, Storing, Publishing, Calling, Unhanding, Releasing}
 use Rattle.lw_core.specs.declared.view.Made.{Made}
@@ -85,8 +87,7 @@ lock_of (Grant l m w) = Some l
 lock_of (Refuse l m w) = Some l
 lock_of (Sub l begins) = Some l
 lock_of (Peek l begins) = Some l
-lock_of (GuardLoad l k) = Some l
-lock_of (GuardStore l k x) = Some l
+lock_of (Guard l k o) = Some l
 lock_of (Lock l begins) = Some l
 lock_of (VarLoad l) = Some l
 lock_of (VarStore l x) = Some l
@@ -120,8 +121,7 @@ word_of z own (Grant l m w) = state_at l
 word_of z own (Refuse l m w) = state_at l
 word_of z own (Sub l begins) = state_at l
 word_of z own (Peek l begins) = state_at l
-word_of z own (GuardLoad l k) = guard_at l k
-word_of z own (GuardStore l k x) = guard_at l k
+word_of z own (Guard l k o) = guard_at l k
 word_of z own (Lock l begins) = state_at l
 word_of z own (VarLoad l) = var_at l
 word_of z own (VarStore l x) = var_at l
@@ -135,6 +135,21 @@ word_of z own (Look begins) = sem_at z own
 word_of z own Down = sem_at z own
 word_of z own (SetReleaseOk l) = state_at l
 
+-- what an operation makes of a guarded word, whether it writes, what the seat's hold of the lock then is, and in which mode the seat has to hold it
+abbrev pub guard_becomes : GuardOp → ℕ → ℕ
+guard_becomes guard.Load n = n
+guard_becomes (guard.Store x) n = x
+
+abbrev pub guard_writes : GuardOp → Bool
+guard_writes guard.Load = false
+guard_writes (guard.Store x) = true
+
+abbrev pub guard_hold : GuardOp → Hold → ℕ → ℕ → Hold
+guard_hold o h k n = record h { known = slice_set h.known k (Some (guard_becomes o n)); wrote = cond (guard_writes o) true h.wrote }
+
+abbrev pub MayGuard : GuardOp → Option Mode → Type 0
+MayGuard o m = cond (guard_writes o) (m ≡ Some Exclusive) (IsSome m)
+
 -- what the word n becomes
 abbrev pub becomes : LwStep → View → ℕ → ℕ
 becomes (Load l begins) v n = n
@@ -142,8 +157,7 @@ becomes (Grant l m w) v n = cond (n == w) (w + grant_of m) n
 becomes (Refuse l m w) v n = n
 becomes (Sub l begins) v n = n - grant_held (mode_in l v)
 becomes (Peek l begins) v n = n
-becomes (GuardLoad l k) v n = n
-becomes (GuardStore l k x) v n = x
+becomes (Guard l k o) v n = guard_becomes o n
 becomes (Lock l begins) v n = set_flag locked n
 becomes (VarLoad l) v n = n
 becomes (VarStore l x) v n = x
@@ -169,8 +183,7 @@ exchanges (Grant l m w) n = n == w
 exchanges (Refuse l m w) n = n == w
 exchanges (Sub l begins) n = true
 exchanges (Peek l begins) n = false
-exchanges (GuardLoad l k) n = false
-exchanges (GuardStore l k x) n = true
+exchanges (Guard l k o) n = guard_writes o
 exchanges (Lock l begins) n = true
 exchanges (VarLoad l) n = false
 exchanges (VarStore l x) n = true
@@ -377,8 +390,7 @@ next (Grant l m w) v n found = cond (n == w) (gripped v (Grant l m w) l n (on_gr
 next (Refuse l m w) v n found = moved v (Refuse l m w) n (cond (n == w) (on_refusal (outer v.place)) (Trying l m n ∷ outer v.place))
 next (Sub l begins) v n found = gripped v (Sub l begins) l n (let_go l (n - grant_held (mode_in l v)) (releasing begins v.place)) not_held v.grants
 next (Peek l begins) v n found = moved v (Peek l begins) n (peeked begins v.surplus n v.place)
-next (GuardLoad l k) v n found = gripped v (GuardLoad l k) l n v.place (learnt (hold_in l v) k n) v.grants
-next (GuardStore l k x) v n found = gripped v (GuardStore l k x) l n v.place (written (hold_in l v) k x) v.grants
+next (Guard l k o) v n found = gripped v (Guard l k o) l n v.place (guard_hold o (hold_in l v) k n) v.grants
 next (Lock l begins) v n found = moved v (Lock l begins) n (cond (has_flag locked n == 0) (in_hand found (outer (taking begins v.place))) (Spinning l ∷ outer (taking begins v.place)))
 next (VarLoad l) v n found = moved v (VarLoad l) n (compared n v.place)
 next (VarStore l x) v n found = moved v (VarStore l x) n (published v.place)
@@ -541,8 +553,7 @@ Allowed lawful (Grant l m w) v = (top v.place ≡ Some (Trying l m w)) × (is_fr
 Allowed lawful (Refuse l m w) v = (top v.place ≡ Some (Trying l m w)) × (is_free m w ≡ false)
 Allowed lawful (Sub l begins) v = BeginsRelease l begins v × LeavesLawful (lawful l) (hold_in l v)
 Allowed lawful (Peek l begins) v = BeginsLook l begins v
-Allowed lawful (GuardLoad l k) v = (k < 4) × (v.place ≡ []) × IsSome (mode_in l v)
-Allowed lawful (GuardStore l k x) v = (k < 4) × (v.place ≡ []) × (mode_in l v ≡ Some Exclusive)
+Allowed lawful (Guard l k o) v = (k < 4) × (v.place ≡ []) × MayGuard o (mode_in l v)
 Allowed lawful (Lock l begins) v = BeginsTaking l begins v
 Allowed lawful (VarLoad l) v = MayReadVar l v.place
 Allowed lawful (VarStore l x) v = MayStoreVar l x v.place

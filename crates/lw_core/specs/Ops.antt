@@ -4,8 +4,9 @@ use prog.Atomic.{either}
 use mathlib.Core.Option as maybe
 use Rattle.atomic_table.specs.Table.{Step, step, Allows}
 use Rattle.proc_table.specs.declared.Mode.{Mode}
+use Rattle.lw_core.specs.declared.step.GuardOp.TheVariants as guard
 use Rattle.lw_core.specs.declared.step.LwStep.{LwStep}
-use Rattle.lw_core.specs.declared.step.LwStep.TheVariants.{Load, Grant, Refuse, Sub, Peek, GuardLoad, GuardStore, Lock, VarLoad, VarStore, Unlock, Flag, WaitStore, WaitLoad, Wake, Post, Look, Down, SetReleaseOk}
+use Rattle.lw_core.specs.declared.step.LwStep.TheVariants.{Load, Grant, Refuse, Sub, Peek, Guard, Lock, VarLoad, VarStore, Unlock, Flag, WaitStore, WaitLoad, Wake, Post, Look, Down, SetReleaseOk}
 use Rattle.lw_core.specs.declared.step.WordOp.{WordOp}
 use Rattle.lw_core.specs.declared.step.WordOp.TheVariants as op
 use Rattle.lw_core.specs.declared.view.Size.{Size}
@@ -34,8 +35,8 @@ op_of (Grant l m w) o = op.Change w ((w + grant_of m) % 2 ^ 64)
 op_of (Refuse l m w) o = op.Change w w
 op_of (Sub l b) o = op.Sub (grant_held o)
 op_of (Peek l b) o = op.Load
-op_of (GuardLoad l k) o = op.Load
-op_of (GuardStore l k x) o = op.Store x
+op_of (Guard l k guard.Load) o = op.Load
+op_of (Guard l k (guard.Store x)) o = op.Store x
 op_of (Lock l b) o = op.Or 0x1000_0000
 op_of (VarLoad l) o = op.Load
 op_of (VarStore l x) o = op.Store x

@@ -2,14 +2,14 @@
 use Rattle.std.specs.Prelude.{◌≡◌, ℕ, ◌+◌, ◌^◌, ◌<◌, ◌≤◌, List, [], length, slice_index, Option, None, Some, cond, false, ⊤}
 use Rattle.atomic_table.specs.Table.{Me, Step, carried_after}
 use Rattle.lw_core.specs.declared.step.LwStep.{LwStep}
-use Rattle.lw_core.specs.declared.step.LwStep.TheVariants.{Load, Grant, Refuse, Sub, Peek, GuardLoad, GuardStore, Lock, VarLoad, VarStore, Unlock, Flag, WaitStore, WaitLoad, Wake, Post, Look, Down, SetReleaseOk}
+use Rattle.lw_core.specs.declared.step.LwStep.TheVariants.{Load, Grant, Refuse, Sub, Peek, Guard, Lock, VarLoad, VarStore, Unlock, Flag, WaitStore, WaitLoad, Wake, Post, Look, Down, SetReleaseOk}
 use Rattle.lw_core.specs.declared.view.View.{View}
 use Rattle.lw_core.specs.declared.view.Hold.{Hold}
 use Rattle.lw_core.specs.declared.view.Size.{Size}
 use Rattle.lw_core.specs.declared.view.Waiter.{Waiter}
 use Rattle.lw_core.specs.Words.{Waiters, locked, has_flag}
 use Rattle.lw_core.specs.WaitLists.{AllBelow}
-use Rattle.lw_core.specs.Machine.{next, lock_of, takes_list, sends_home, act_of, hold_in, known_at, not_held, held, learnt, written}
+use Rattle.lw_core.specs.Machine.{next, lock_of, takes_list, sends_home, act_of, hold_in, known_at, not_held, held, learnt, guard_hold, guard_becomes}
 use Rattle.lw_core.specs.Stances.{Hand, hand_at, round_at}
 use Rattle.lw_core.specs.Runs.{drew_one}
 
@@ -36,8 +36,7 @@ Tells lawful z (Grant l m w) v n found = (n < 2 ^ 32) × (n ≡ w → hold_in l 
 Tells lawful z (Refuse l m w) v n found = n < 2 ^ 32
 Tells lawful z (Sub l begins) v n found = (n < 2 ^ 32) × (hold_in l (next (Sub l begins) v n found) ≡ not_held)
 Tells lawful z (Peek l begins) v n found = (n < 2 ^ 32) × (v.place ≡ [] → v.surplus ≡ 0)
-Tells lawful z (GuardLoad l k) v n found = (hold_in l (next (GuardLoad l k) v n found) ≡ learnt (hold_in l v) k n) × Reads (lawful l) (hold_in l v) k n
-Tells lawful z (GuardStore l k x) v n found = (hold_in l (next (GuardStore l k x) v n found) ≡ written (hold_in l v) k x) × (known_at (written (hold_in l v) k x) k ≡ Some x)
+Tells lawful z (Guard l k o) v n found = (hold_in l (next (Guard l k o) v n found) ≡ guard_hold o (hold_in l v) k n) × (known_at (guard_hold o (hold_in l v) k n) k ≡ Some (guard_becomes o n)) × Reads (lawful l) (hold_in l v) k n
 Tells lawful z (Lock l begins) v n found = (n < 2 ^ 32) × (has_flag locked n ≡ 0 → TellsList z v found) × (v.place ≡ [] → v.surplus ≡ 0)
 Tells lawful z (VarLoad l) v n found = ⊤
 Tells lawful z (VarStore l x) v n found = ⊤

@@ -15,6 +15,6 @@ mod words;
 pub use closed::LwClosed;
 pub use rule::Guarded;
 pub use seat::{LwSeat, WaitList};
-pub use step::{Call, LwSeen, LwStep};
+pub use step::{Call, GuardOp, LwSeen, LwStep};
 pub use table::LwTable;
 pub use view::{Frame, Hold, Made, Size, View, Waiter, Waiters, Want};

@@ -34,6 +34,13 @@ pub enum Call {
     Poke(ProcNo),
 }
 
+/// What a step does to a guarded word.
+#[derive(Clone, Copy)]
+pub enum GuardOp {
+    Load,
+    Store(u64),
+}
+
 /// One step on one word. A step that can be the first of a call names the call that it begins.
 #[derive(Clone, Copy)]
 pub enum LwStep {
@@ -47,10 +54,8 @@ pub enum LwStep {
     Sub(LockNo, Option<Call>),
     /// Reads the state word to see whether an exclusive holder is there.
     Peek(LockNo, Option<Call>),
-    /// Reads one of the lock's four guarded words; a call of its own.
-    GuardLoad(LockNo, u32),
-    /// Writes one of the lock's four guarded words; a call of its own.
-    GuardStore(LockNo, u32, u64),
+    /// Reads or writes one of the lock's four guarded words; a call of its own.
+    Guard(LockNo, u32, GuardOp),
     /// Sets LOCKED. Where it wasn't set the seat has the lock's list in hand.
     Lock(LockNo, Option<Call>),
     /// Reads the lock's variable, with the list in hand.
@@ -108,8 +113,7 @@ impl LwStep {
             LwStep::Refuse(lock, _, _) => Some(lock),
             LwStep::Sub(lock, _) => Some(lock),
             LwStep::Peek(lock, _) => Some(lock),
-            LwStep::GuardLoad(lock, _) => Some(lock),
-            LwStep::GuardStore(lock, _, _) => Some(lock),
+            LwStep::Guard(lock, _, _) => Some(lock),
             LwStep::Lock(lock, _) => Some(lock),
             LwStep::VarLoad(lock) => Some(lock),
             LwStep::VarStore(lock, _) => Some(lock),
@@ -136,8 +140,7 @@ impl LwStep {
             LwStep::Refuse(lock, _, _) => state_word(lock),
             LwStep::Sub(lock, _) => state_word(lock),
             LwStep::Peek(lock, _) => state_word(lock),
-            LwStep::GuardLoad(lock, at) => guarded_word(lock, at),
-            LwStep::GuardStore(lock, at, _) => guarded_word(lock, at),
+            LwStep::Guard(lock, at, _) => guarded_word(lock, at),
             LwStep::Lock(lock, _) => state_word(lock),
             LwStep::VarLoad(lock) => variable_word(lock),
             LwStep::VarStore(lock, _) => variable_word(lock),
@@ -163,8 +166,8 @@ impl LwStep {
             LwStep::Refuse(_, _, from) => WordOp::Change(from, from),
             LwStep::Sub(_, _) => WordOp::Sub(held_grant(held)),
             LwStep::Peek(_, _) => WordOp::Load,
-            LwStep::GuardLoad(_, _) => WordOp::Load,
-            LwStep::GuardStore(_, _, value) => WordOp::Store(value),
+            LwStep::Guard(_, _, GuardOp::Load) => WordOp::Load,
+            LwStep::Guard(_, _, GuardOp::Store(value)) => WordOp::Store(value),
             LwStep::Lock(_, _) => WordOp::Or(LOCKED),
             LwStep::VarLoad(_) => WordOp::Load,
             LwStep::VarStore(_, value) => WordOp::Store(value),
@@ -195,7 +198,7 @@ impl LwStep {
             LwStep::Grant(_, _, from) => found == from,
             LwStep::Refuse(_, _, from) => found == from,
             LwStep::Peek(_, _) => false,
-            LwStep::GuardLoad(_, _) => false,
+            LwStep::Guard(_, _, GuardOp::Load) => false,
             LwStep::VarLoad(_) => false,
             LwStep::WaitLoad => false,
             LwStep::Wake(_, from, _) => found == from,

@@ -2,7 +2,8 @@
 ghost use Rattle.std.specs.Prelude.{◌≡◌, ◌↔◌, ℕ, ◌+◌, ◌<◌, ◌≤◌, ◌*◌, None, Some, IsSome, IsOk, IsErr, IfOk, IfErr, OnOk, OnErr, List, [], length, true, false};
 ghost use Rattle.proc_table.specs.declared.Mode.{Mode};
 ghost use Rattle.proc_table.specs.declared.Mode.TheVariants.{Exclusive};
-ghost use Rattle.lw_core.specs.declared.step.LwStep.TheVariants.{GuardLoad, GuardStore};
+ghost use Rattle.lw_core.specs.declared.step.GuardOp.TheVariants as guard;
+ghost use Rattle.lw_core.specs.declared.step.LwStep.TheVariants.{Guard};
 ghost use Rattle.lw_core.specs.declared.view.Frame.TheVariants.{Asleep};
 ghost use Rattle.lw_core.specs.Ops.{about};
 ghost use Rattle.lw_core.specs.Told.{KnowsAll, Tells, does};
@@ -14,7 +15,7 @@ ghost use Rattle.lw_core.specs.Machine.{IsInRange, top, HoldsNothing, hold_in, k
 use crate::closed::LwClosed;
 use crate::rule::{Doing, DrawsOne, Guarded, Looks, LwRule, Newcomer, TakesIn};
 use crate::seat::{LwSeat, keep_mode};
-use crate::step::{LwSeen, LwStep};
+use crate::step::{GuardOp, LwSeen, LwStep};
 use crate::turn::turn;
 use crate::view::{Size, View, Waiters};
 use crate::words::{LOCKED, opening_lists, opening_words};
@@ -255,14 +256,14 @@ impl<G: Guarded> LwTable<G> {
         requires lock { (lock < self.now.locks) × (at < 4) }
         requires held { (seat.old.view.place ≡ []) × IsSome (mode_in lock seat.old.view) }
         ensures table { (seat.new.table_id ≡ seat.old.table_id) × (seat.new.id ≡ seat.old.id) }
-        ensures view { seat.new.view ≡ next (GuardLoad lock at) seat.old.view result [] }
+        ensures view { seat.new.view ≡ next (Guard lock at guard.Load) seat.old.view result [] }
         ensures hold { hold_in lock seat.new.view ≡ learnt (hold_in lock seat.old.view) at result }
         ensures same { (n : ℕ) → known_at (hold_in lock seat.old.view) at ≡ Some n → result ≡ n }
         ensures known { known_at (hold_in lock seat.new.view) at ≡ Some result }
         ensures lawful { (hold_in lock seat.new.view).wrote ≡ false → (words : List ℕ)
             → KnowsAll (hold_in lock seat.new.view) words → G.lawful lock words }
     {
-        self.step(seat, LwStep::GuardLoad(lock, at)).old
+        self.step(seat, LwStep::Guard(lock, at, GuardOp::Load)).old
     }
 
     /// Writes one of the four words of a lock that is held exclusively.
@@ -271,11 +272,11 @@ impl<G: Guarded> LwTable<G> {
         requires lock { (lock < self.now.locks) × (at < 4) }
         requires held { (seat.old.view.place ≡ []) × (mode_in lock seat.old.view ≡ Some Exclusive) }
         ensures table { (seat.new.table_id ≡ seat.old.table_id) × (seat.new.id ≡ seat.old.id) }
-        ensures view { (n : ℕ) × (seat.new.view ≡ next (GuardStore lock at value) seat.old.view n []) }
+        ensures view { (n : ℕ) × (seat.new.view ≡ next (Guard lock at (guard.Store value)) seat.old.view n []) }
         ensures hold { hold_in lock seat.new.view ≡ written (hold_in lock seat.old.view) at value }
         ensures known { known_at (hold_in lock seat.new.view) at ≡ Some value }
     {
-        self.step(seat, LwStep::GuardStore(lock, at, value));
+        self.step(seat, LwStep::Guard(lock, at, GuardOp::Store(value)));
     }
 
     /// Takes in another seat, whose number isn't given again.
