@@ -7,7 +7,7 @@ ghost use Rattle.two_words.specs.declared.Progress.{Progress};
 
 mod runs;
 
-pub use runs::{take_turn, two_turns};
+pub use runs::{half_turn, take_turn, two_turns};
 use wait_core::{ClientOp, Party};
 
 /// What a seat has done. A seat that took in others has done what they did. No value of it is made.

@@ -1,6 +1,7 @@
 //! A seat takes its turn, and what the words are at the end.
 ghost use Rattle.std.specs.Prelude.{◌≡◌, ◌<◌, [], IfOk};
-ghost use Rattle.two_words.specs.Balance.{progress};
+ghost use Rattle.two_words.specs.declared.Turn.TheVariants.{First};
+ghost use Rattle.two_words.specs.Balance.{progress, turned};
 
 use crate::{Turn, TwoWords};
 use proc_table::NoMemory;
@@ -21,6 +22,19 @@ pub fn take_turn(table: &Table, seat: &mut Seat)
 {
     table.client(seat, Turn::First);
     table.client(seat, Turn::Second);
+}
+
+/// The seat takes the first half of a turn, and answers what it found in the first word: fewer
+/// turns than there may ever be seats.
+pub fn half_turn(table: &Table, seat: &mut Seat) -> u64
+    requires table { seat.old.table_id ≡ table.now.table_id }
+    requires place { seat.old.view.place ≡ [] }
+    requires turn { 0 < seat.old.view.client.left }
+    ensures table { (seat.new.table_id ≡ seat.old.table_id) × (seat.new.id ≡ seat.old.id) }
+    ensures view { seat.new.view ≡ record seat.old.view { client = turned seat.old.view.client First } }
+    ensures few { result < 64 }
+{
+    table.client(seat, Turn::First).old
 }
 
 /// Two seats, each with its turn, one after the other: both words are 2 at the end.

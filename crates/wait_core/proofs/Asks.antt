@@ -11,7 +11,9 @@ use Rattle.wait_core.specs.declared.view.Size.{Size}
 use Rattle.wait_core.specs.declared.view.WaitView.{WaitView}
 use Rattle.wait_core.specs.Ops.{op_at, op_gives}
 use Rattle.wait_core.specs.Words.{client_base}
-use Rattle.wait_core.specs.Machine.{word_of, becomes, next, Permits, Allowed}
+use mathlib.Core.Option as maybe
+use lib.ListN.{get_elem?}
+use Rattle.wait_core.specs.Machine.{WaitState, word_of, becomes, next, Permits, Allowed}
 use Rattle.wait_core.specs.Parties.{with_client, newcomer, joined, left_over, IsStep, IsDraw, IsJoin}
 use Rattle.wait_core.specs.Seating.{numbers_of, party_of, client_moved, with_drawn, stays, comes, took_in, spent_view}
 use Rattle.wait_core.specs.Rule.{Rule}
@@ -50,16 +52,17 @@ module _ {C : Type 0} (holds : List ℕ → List (PartyView C) → List ℕ → 
       ))
 
   -- a step of the client
-  pub client_turns : (slots id : ℕ) (me : Me Kept (WaitView C)) (word : ℕ) (op : ClientOp) (then : ℕ → C) → word ≡ client_base z + op_at op → op_at op < count
+  pub client_turns : (slots id : ℕ) (me : Me Kept (WaitView C)) (word : ℕ) (op : ClientOp) (then : ℕ → C) (told : ℕ → Type 0) → word ≡ client_base z + op_at op → op_at op < count → (p : ℕ) → me.0.own ≡ Some p
+      → ((s : WaitState C) → Rule holds z phase count s → get_elem? s.views id ≡ maybe.some me.0 → told (get_or s.words (client_base z + op_at op) 0))
       → ((words : List ℕ) (views : List (PartyView C)) (phases : List ℕ) → holds words views phases → IsStep views phases id (party_of me.0) → holds (set words (op_at op) (op_gives op (get_or words (op_at op) 0))) (set views id (with_client (party_of me.0) (then (get_or words (op_at op) 0)))) phases)
-      → Turns holds z phase count slots id me word (op_gives op) (does_client then me)
-  client_turns slots id me word op then at inside law = subst (λ (i : ℕ). Turns holds z phase count slots id me i (op_gives op) (does_client then me)) (sym at)
+      → Turns holds z phase count slots id me word (op_gives op) (does_client then told me)
+  client_turns slots id me word op then told at inside p own tells law = subst (λ (i : ℕ). Turns holds z phase count slots id me i (op_gives op) (does_client then told me)) (sym at)
       (λ s r _ there _. (
         client_moved me.0 (then (get_or s.words (client_base z + op_at op) 0)),
         keeps,
         tt,
-        client_kept holds z phase count s r id me.0 there (op_at op) (op_gives op) then inside law,
-        (refl, refl),
+        client_kept holds z phase count s r id me.0 there p own (op_at op) (op_gives op) then inside law,
+        (refl, refl, tells s r there),
       ))
 
   -- the number that is drawn next is read
@@ -93,8 +96,8 @@ module _ {C : Type 0} (holds : List ℕ → List (PartyView C) → List ℕ → 
   cuts_allowed id v n drawn c law s r there = seat_kept holds z phase count s r id v there n drawn c law
 
   -- a seat takes in another
-  pub glues_allowed : (id : ℕ) (v : WaitView C) (other : ℕ) (w : WaitView C) → w.place ≡ [] → w.attached ≡ [] → w.pending ≡ None → (both : C → C → C) (c : C)
+  pub glues_allowed : (id : ℕ) (v : WaitView C) (p : ℕ) → v.own ≡ Some p → (other : ℕ) (w : WaitView C) → w.place ≡ [] → w.attached ≡ [] → w.pending ≡ None → (both : C → C → C) (c : C)
       → ((words : List ℕ) (views : List (PartyView C)) (phases : List ℕ) → holds words views phases → IsJoin views phases id (party_of v) other (party_of w) → holds words (set (set views id (joined both (party_of v) (party_of w))) other (left_over c)) phases)
       → Glues holds z phase count id v other w (took_in both v w) (spent_view c)
-  glues_allowed id v other w idle free none both c law s r at apart there =
-      join_kept holds z phase count s r id v at other w apart (sym (set_else s.views id other (took_in both v w) apart) ∙ there) idle free none both c law
+  glues_allowed id v p own other w idle free none both c law s r at apart there =
+      join_kept holds z phase count s r id v at p own other w apart (sym (set_else s.views id other (took_in both v w) apart) ∙ there) idle free none both c law

@@ -1,5 +1,5 @@
 -- Steps of the client, and the drawing and joining of seats, keep the whole rule.
-use Rattle.std.proofs.Common.{◌≡◌, ℕ, ◌+◌, ◌<◌, ◌≤◌, List, [], ◌∷◌, ◌++◌, map, drop, length, get_or, set, Option, None, Some, refl, sym, ap, ◌∙◌, subst, arith, length-set, length-append, get_or-set_same, get_or-set_other}
+use Rattle.std.proofs.Common.{◌≡◌, ℕ, zero, suc, ◌+◌, ◌<◌, ◌≤◌, List, [], ◌∷◌, ◌++◌, map, drop, length, get_or, set, Option, None, Some, refl, sym, ap, ◌∙◌, subst, arith, length-set, length-append, get_or-set_same, get_or-set_other}
 use Rattle.std.proofs.lemmas.List.{drop-set-lt, drop-set-add, get_or-drop, length-map}
 use mathlib.Core.List.{map-append}
 use mathlib.Core.Option as maybe
@@ -10,13 +10,13 @@ use Rattle.atomic_table.proofs.Lists.{at_map, set_else}
 use Rattle.wait_core.specs.declared.view.PartyView.{PartyView}
 use Rattle.wait_core.specs.declared.view.Size.{Size}
 use Rattle.wait_core.specs.declared.view.WaitView.{WaitView}
-use Rattle.seat_roster.specs.Roster.{Numbers, Roster, numbered, one_if, drew, gave, took}
+use Rattle.seat_roster.specs.Roster.{Numbers, Roster, count as numbers_in, numbered, one_if, drew, gave, took}
 use Rattle.wait_core.specs.Words.{client_base, phases}
 use Rattle.wait_core.specs.Machine.{WaitState}
 use Rattle.wait_core.specs.Parties.{with_client, newcomer, joined, left_over, IsStep, IsDraw, IsJoin}
 use Rattle.wait_core.specs.Seating.{Standing, numbers_of, standing_of, party_of, client_moved, with_drawn, stays, comes, took_in, spent_view}
 use Rattle.wait_core.specs.Rule.{SeatsAreCounted, Rule}
-use Rattle.seat_roster.proofs.Totals.{total_set, total_snoc, total_at}
+use Rattle.seat_roster.proofs.Totals.{total_set, total_snoc, total_at, total_two}
 use Rattle.seat_roster.proofs.Stretches.{unseen}
 use Rattle.seat_roster.proofs.Numbers.{roster_drew, roster_gave, roster_took, pending_inside}
 use Rattle.wait_core.proofs.Untouched.{Agree, SameCounts, counts_are, counts_snoc, counts_idle, flags_same, may_same, latches_same, shutdown_same, places_snoc, places_idle}
@@ -31,10 +31,10 @@ module _ {C : Type 0} (holds : List ℕ → List (PartyView C) → List ℕ → 
   few_drawn s r id v at own = let up = (r.roster.drawer id (numbers_of v) (at_map numbers_of s.views id v at) own).up_to in let a = r.counted in let x = length-map s.views numbers_of in let y = length-map s.views party_of in omega arith
 
   -- a step of the client's f on its word k
-  pub client_kept : (s : WaitState C) → Rule holds z phase count s → (id : ℕ) (v : WaitView C) → get_elem? s.views id ≡ maybe.some v → (k : ℕ) (f : ℕ → ℕ) (then : ℕ → C) → k < count
+  pub client_kept : (s : WaitState C) → Rule holds z phase count s → (id : ℕ) (v : WaitView C) → get_elem? s.views id ≡ maybe.some v → (p : ℕ) → v.own ≡ Some p → (k : ℕ) (f : ℕ → ℕ) (then : ℕ → C) → k < count
       → ((words : List ℕ) (views : List (PartyView C)) (phases : List ℕ) → holds words views phases → IsStep views phases id (party_of v) → holds (set words k (f (get_or words k 0))) (set views id (with_client (party_of v) (then (get_or words k 0)))) phases)
       → let n = get_or s.words (client_base z + k) 0 in Rule holds z phase count (stepped s (client_base z + k) (f n) id [] (client_moved v (then n)) keeps)
-  client_kept s r id v at k f then below law =
+  client_kept s r id v at p own k f then below law =
       let b : ℕ = client_base z in let n : ℕ = get_or s.words (b + k) 0 in let w : WaitView C = client_moved v (then n) in
       let agree : Agree z s.words (set s.words (b + k) (f n)) = λ i some inside. get_or-set_other s.words (b + k) i (f n) 0 (λ e. omega arith) in
       let same = counts_are (map standing_of s.views) (map standing_of (set s.views id w)) (unseen standing_of s.views id v w at refl) in
@@ -53,7 +53,7 @@ module _ {C : Type 0} (holds : List ℕ → List (PartyView C) → List ℕ → 
         client = subst (λ (x : List ℕ × List (PartyView C)). holds x.0 x.1 (phases z phase))
             (λ i. (sym (drop-set-add b s.words k (f n)) i, sym (map-set party_of s.views id w) i))
             (subst (λ (x : ℕ). holds (set (drop b s.words) k (f x)) (set (map party_of s.views) id (with_client (party_of v) (then x))) (phases z phase)) found
-            (law (drop b s.words) (map party_of s.views) (phases z phase) r.client (record { at = at_map party_of s.views id v at; few = few_views s r })));
+            (law (drop b s.words) (map party_of s.views) (phases z phase) r.client (record { at = at_map party_of s.views id v at; own = (p, own); few = few_views s r })));
       }
 
   -- the seat with the number 0 draws the next
@@ -110,11 +110,11 @@ module _ {C : Type 0} (holds : List ℕ → List (PartyView C) → List ℕ → 
       }
 
   -- a seat takes in another, which is in no call
-  pub join_kept : (s : WaitState C) → Rule holds z phase count s → (id : ℕ) (v : WaitView C) → get_elem? s.views id ≡ maybe.some v → (other : ℕ) (w : WaitView C) → (other ≡ id → ⊥) → get_elem? s.views other ≡ maybe.some w
+  pub join_kept : (s : WaitState C) → Rule holds z phase count s → (id : ℕ) (v : WaitView C) → get_elem? s.views id ≡ maybe.some v → (p : ℕ) → v.own ≡ Some p → (other : ℕ) (w : WaitView C) → (other ≡ id → ⊥) → get_elem? s.views other ≡ maybe.some w
       → w.place ≡ [] → w.attached ≡ [] → w.pending ≡ None → (both : C → C → C) (c : C)
       → ((words : List ℕ) (views : List (PartyView C)) (phases : List ℕ) → holds words views phases → IsJoin views phases id (party_of v) other (party_of w) → holds words (set (set views id (joined both (party_of v) (party_of w))) other (left_over c)) phases)
       → Rule holds z phase count record { words = s.words; homes = s.homes; views = set (set s.views id (took_in both v w)) other (spent_view c) }
-  join_kept s r id v at other w apart there idle free none both c law =
+  join_kept s r id v at p own other w apart there idle free none both c law =
       let x : WaitView C = took_in both v w in let y : WaitView C = spent_view c in let vs = set s.views id x in let ns = map numbers_of s.views in
       let at' = at_map numbers_of s.views id v at in
       let there' : get_elem? vs other ≡ maybe.some w = set_else s.views id other x apart ∙ there in
@@ -138,5 +138,29 @@ module _ {C : Type 0} (holds : List ℕ → List (PartyView C) → List ℕ → 
         shutdown = shutdown_same z s.words s.words (map standing_of s.views) (map standing_of (set vs other y)) agree same r.shutdown;
         client = subst (λ (l : List (PartyView C)). holds (drop (client_base z) s.words) l (phases z phase)) parties
             (law (drop (client_base z) s.words) (map party_of s.views) (phases z phase) r.client
-            (record { at = at_map party_of s.views id v at; apart = apart; there = at_map party_of s.views other w there; free = free; few = few_views s r }));
+            (record { at = at_map party_of s.views id v at; own = (p, own); apart = apart; there = at_map party_of s.views other w there; free = free; few = few_views s r }));
       }
+
+  -- once the seat with the number 0 has taken over every number that it drew, no other view has one
+  pub others_numberless : (s : WaitState C) → Rule holds z phase count s → (id : ℕ) (v : WaitView C) → get_elem? s.views id ≡ maybe.some v → v.own ≡ Some 0 → length v.taken ≡ v.drawn
+      → (k : ℕ) (u : WaitView C) → (k ≡ id → ⊥) → get_elem? s.views k ≡ maybe.some u → u.own ≡ None
+  others_numberless s r id v at own all k u apart there = by_number u.own refl
+    where
+      by_number : (o : Option ℕ) → u.own ≡ o → o ≡ None
+      by_number None e = refl
+      by_number (Some p) e =
+          let two = total_two numbers_in (map numbers_of s.views) id k (numbers_of v) (numbers_of u) apart (at_map numbers_of s.views id v at) (at_map numbers_of s.views k u there) in
+          let counted = r.roster.counted in
+          let up = (r.roster.drawer id (numbers_of v) (at_map numbers_of s.views id v at) own).up_to in
+          let one : one_if v.own ≡ 1 = ap one_if own in
+          let other : one_if u.own ≡ 1 = ap one_if e in absurd (omega arith)
+
+  -- the same, of what the client sees
+  pub others_left : (s : WaitState C) → Rule holds z phase count s → (id : ℕ) (v : WaitView C) → get_elem? s.views id ≡ maybe.some v → v.own ≡ Some 0 → length v.taken ≡ v.drawn
+      → (k : ℕ) (u : PartyView C) → (k ≡ id → ⊥) → get_elem? (map party_of s.views) k ≡ maybe.some u → u.proc ≡ None
+  others_left s r id v at own all k u apart there = let w = seen s.views k there in sym (ap (λ (x : PartyView C). x.proc) w.2) ∙ others_numberless s r id v at own all k w.0 apart w.1
+    where
+      seen : (l : List (WaitView C)) (k : ℕ) → get_elem? (map party_of l) k ≡ maybe.some u → (w : WaitView C) × (get_elem? l k ≡ maybe.some w) × (party_of w ≡ u)
+      seen [] k e = absurd (maybe.some-ne-none u (sym e))
+      seen (x ∷ xs) zero e = (x, refl, maybe.some-injective (party_of x) u e)
+      seen (x ∷ xs) (suc k) e = seen xs k e

@@ -1,5 +1,5 @@
--- What is left when a table is closed.
-use Rattle.std.specs.Prelude.{◌≡◌, ℕ, List}
+-- What a step of the client tells of the table, and what is left when it is closed.
+use Rattle.std.specs.Prelude.{◌≡◌, ℕ, List, slice_index}
 use mathlib.Core.Option as maybe
 use lib.ListN.{get_elem?}
 use Rattle.wait_core.specs.declared.view.PartyView.{PartyView}
@@ -7,6 +7,13 @@ use Rattle.wait_core.specs.Words.{client_words}
 use Rattle.wait_core.specs.Machine.{WaitState}
 use Rattle.wait_core.specs.Rule.{Rule}
 use Rattle.wait_core.specs.Seats.{SeatView, TableView}
+
+-- in a state that meets the rule the seat had this view, and the client's word at a place was n
+pub record Stood {C P : Type 0} (holds : List ℕ → List (PartyView C) → List ℕ → Type 0) (count : ℕ) (t : TableView P) (seat : SeatView C) (at n : ℕ) : Type 0 where
+  pub state : WaitState C
+  pub rule : Rule holds t.size t.phase count state
+  pub here : get_elem? state.views seat.id ≡ maybe.some seat.view
+  pub read : slice_index (client_words t.size state.words) at ≡ n
 
 -- the words are the client's of a state that meets the rule, in which the last seat has its view
 pub record Ends {C P : Type 0} (holds : List ℕ → List (PartyView C) → List ℕ → Type 0) (count : ℕ) (t : TableView P) (seat : SeatView C) (words : List ℕ) : Type 0 where

@@ -1,7 +1,7 @@
 -- What changes of a client's view of a seat, and what a client's laws may suppose.
 use mathlib.Core.Option as maybe
 use lib.ListN.{get_elem?}
-use Rattle.std.specs.Prelude.{◌≡◌, ◌<◌, ◌≤◌, List, length, ℕ, [], ◌++◌, Option, None}
+use Rattle.std.specs.Prelude.{◌≡◌, ◌<◌, ◌≤◌, List, length, ℕ, [], ◌++◌, Option, None, Some}
 use Rattle.wait_core.specs.declared.view.PartyView.{PartyView}
 
 module _ {C : Type 0} where
@@ -23,6 +23,7 @@ module _ {C : Type 0} where
   -- the seat that makes a step, among the at most 64 that there ever are
   pub record IsStep (views : List (PartyView C)) (phases : List ℕ) (id : ℕ) (v : PartyView C) : Type 0 where
     pub at : get_elem? views id ≡ maybe.some v
+    pub own : (p : ℕ) × (v.proc ≡ Some p)
     pub few : length views ≤ 64
 
   -- a seat is drawn, and there is room for it
@@ -33,6 +34,7 @@ module _ {C : Type 0} where
   -- a seat and another that is joined into it
   pub record IsJoin (views : List (PartyView C)) (phases : List ℕ) (id : ℕ) (v : PartyView C) (other : ℕ) (w : PartyView C) : Type 0 where
     pub at : get_elem? views id ≡ maybe.some v
+    pub own : (p : ℕ) × (v.proc ≡ Some p)
     pub apart : other ≡ id → ⊥
     pub there : get_elem? views other ≡ maybe.some w
     pub free : w.attached ≡ []

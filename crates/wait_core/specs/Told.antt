@@ -15,9 +15,9 @@ module _ {C : Type 0} where
   abbrev pub does : Size → WaitStep → Me Kept (WaitView C) → ℕ → Me Kept (WaitView C) → Type 0
   does z k m n m' = (m'.0 ≡ next z k m.0 n) × (m'.1 ≡ m.1) × (n ≤ 1)
 
-  -- a step of the client, after which its view is c of the word found
-  abbrev pub does_client : (ℕ → C) → Me Kept (WaitView C) → ℕ → Me Kept (WaitView C) → Type 0
-  does_client c m n m' = (m'.0 ≡ client_moved m.0 (c n)) × (m'.1 ≡ m.1)
+  -- a step of the client, after which its view is c of the word found, and which told something of it
+  abbrev pub does_client : (ℕ → C) → (ℕ → Type 0) → Me Kept (WaitView C) → ℕ → Me Kept (WaitView C) → Type 0
+  does_client c told m n m' = (m'.0 ≡ client_moved m.0 (c n)) × (m'.1 ≡ m.1) × told n
 
   -- the number that is drawn next is one more than those drawn
   abbrev pub looks : Step Kept → Me Kept (WaitView C) → ℕ → Me Kept (WaitView C) → Type 0

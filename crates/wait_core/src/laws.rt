@@ -1,10 +1,11 @@
 //! Theorems over states and runs of the machine's definitions. The functions do nothing.
-ghost use Rattle.std.specs.Prelude.{◌≡◌, ◌<◌, ◌≤◌, ◌+◌, ◌∷◌, [], ℕ, List, Some, slice_index, length, map};
+ghost use Rattle.std.specs.Prelude.{◌≡◌, ◌<◌, ◌≤◌, ◌+◌, ◌∷◌, [], ℕ, List, None, Some, slice_index, length, map};
 ghost use mathlib.Core.Option as maybe;
 ghost use lib.ListN.{get_elem?};
 ghost use Rattle.atomic_table.specs.Table.{opening};
 ghost use Rattle.wait_core.specs.declared.step.WaitStep.{WaitStep};
 ghost use Rattle.wait_core.specs.declared.view.Kept.{Kept};
+ghost use Rattle.wait_core.specs.declared.view.PartyView.{PartyView};
 ghost use Rattle.wait_core.specs.declared.view.WaitView.{WaitView};
 ghost use Rattle.wait_core.specs.Words.{set_at, may_at, shut_at, client_base, client_words, opened, opening_words, phases};
 ghost use Rattle.wait_core.specs.Machine.{WaitState, top, bit, Allowed, after};
@@ -74,4 +75,9 @@ pub fn machine_leaves_client<P: Party>(party: &P, size: Size, phase: u64)
 /// A step of the client leaves all other words.
 pub fn client_leaves_machine<P: Party>(party: &P, size: Size, phase: u64)
     ensures { (s : WaitState P.View) (id i : ℕ) (v : WaitView P.View) (x : P.Step) → i < client_base size → slice_index (after_client (P.does party.now) (P.may party.now) (P.after party.now) (P.first party.now) P.spent P.both size s id v x).words i ≡ slice_index s.words i }
+{}
+
+/// Once the seat with the number 0 has taken over every number that it drew, no other view has one.
+pub fn others_are_left<P: Party>(party: &P, size: Size, phase: u64)
+    ensures { (s : WaitState P.View) (id k : ℕ) (v : WaitView P.View) (u : PartyView P.View) → Rule (P.holds party.now) size phase (P.word_count party.now) s → get_elem? s.views id ≡ maybe.some v → v.own ≡ Some 0 → length v.taken ≡ v.drawn → (k ≡ id → ⊥) → get_elem? (map party_of s.views) k ≡ maybe.some u → u.proc ≡ None }
 {}

@@ -1,13 +1,13 @@
 //! A table and the calls on it.
 ghost use Rattle.std.specs.Prelude.{◌≡◌, ◌<◌, ◌≤◌, ◌+◌, ◌^◌, Some, [], ◌∷◌, IfOk, MatchResult, length, true};
-ghost use Rattle.wait_core.specs.Ops.{op_gives, op_writes};
+ghost use Rattle.wait_core.specs.Ops.{op_at, op_gives, op_writes};
 ghost use Rattle.wait_core.specs.Words.{client_base, opened, phases, set_at, may_at, byte_at, shut_at, opening_words};
 ghost use Rattle.wait_core.specs.Machine.{word_of, writes, next, Allowed, top};
 ghost use Rattle.wait_core.specs.Parties.{newcomer};
 ghost use Rattle.wait_core.specs.Places.{is_asleep};
 ghost use Rattle.wait_core.specs.Seating.{party_of, fresh, client_moved, after_draw, stays, took_in};
 ghost use Rattle.wait_core.specs.Told.{Turns, Cuts};
-ghost use Rattle.wait_core.specs.Closing.{Ends};
+ghost use Rattle.wait_core.specs.Closing.{Ends, Stood};
 
 use crate::closed::WaitClosed;
 use crate::opening::{opening_homes, opening_row};
@@ -150,6 +150,7 @@ impl<P: Party> WaitTable<P> {
         requires may { P.may self.now.party (party_of seat.old.view) step }
         ensures table { (seat.new.table_id ≡ seat.old.table_id) × (seat.new.id ≡ seat.old.id) }
         ensures view { seat.new.view ≡ client_moved seat.old.view (P.after self.now.party (party_of seat.old.view) step result.old) }
+        ensures stood { Stood (P.holds self.now.party) (P.word_count self.now.party) self.now seat.old (op_at (P.does self.now.party step)) result.old }
         ensures changed { result.changed ≡ op_writes (P.does self.now.party step) result.old }
     {
         let op = self.about.party.op(step);

@@ -17,7 +17,7 @@ join_seat-requires g c =
       c.from.invariant.0,
       omega arith,
       for_same _ _ c.self.invariant.0 (λ a. Glues (g.P.Party.holds a.party) a.size a.phase a.count into.id into.me.0 from.id from.me.0 (took_in g.P.Party.both into.me.0 from.me.0) (spent_view g.P.Party.spent))
-          (glues_allowed (g.P.Party.holds about.party) about.size about.phase about.count into.id into.me.0 from.id from.me.0
+          (glues_allowed (g.P.Party.holds about.party) about.size about.phase about.count into.id into.me.0 c.into.inside.number c.into.invariant.1 from.id from.me.0
           (ap (λ (t : _). t.view.place) c.from.view_is ∙ c.requires.free.0) (ap (λ (t : _). t.view.attached) c.from.view_is ∙ c.requires.free.1) c.from.invariant.2 g.P.Party.both g.P.Party.spent
           (λ words views phases kept at. laws.join_keeps about.party words views phases _ _ _ _ kept at)),
     )
