@@ -66,13 +66,13 @@ module _ {C : Type 0} (holds : List ℕ → List (PartyView C) → List ℕ → 
       ))
 
   -- the number that is drawn next is read
-  pub looks_allowed : (slots id : ℕ) (me : Me Kept (WaitView C)) (st : Step Kept) → Turns holds z phase count slots id me 0 (λ n. n) (looks st me)
-  looks_allowed slots id me st s r _ there _ = (
+  pub looks_allowed : (slots id : ℕ) (me : Me Kept (WaitView C)) → Turns holds z phase count slots id me 0 (λ n. n) (looks z me)
+  looks_allowed slots id me s r _ there _ = (
     me.0,
     keeps,
     tt,
     subst (Rule holds z phase count) (sym same) r,
-    (refl, refl, λ own. (r.roster.drawer id (numbers_of me.0) (at_map numbers_of s.views id me.0 there) own).up_to),
+    (refl, refl, λ own. (r.roster.drawer id (numbers_of me.0) (at_map numbers_of s.views id me.0 there) own).up_to, r.roster.few),
   )
     where
       same : stepped s 0 (get_or s.words 0 0) id me.1 me.0 keeps ≡ s

@@ -1,7 +1,7 @@
 -- The table at its opening meets the rule.
-use Rattle.std.proofs.Common.{◌≡◌, ℕ, zero, suc, ◌+◌, ◌<◌, ◌≤◌, Bool, false, List, [], ◌∷◌, ◌++◌, length, drop, get_or, set, Option, None, Some, refl, sym, ap, ◌∙◌, subst, arith, length-append, length-set, get_or-set_same, get_or-set_other}
+use Rattle.std.proofs.Common.{◌≡◌, ℕ, zero, suc, ◌+◌, ◌<◌, ◌≤◌, Bool, false, List, [], ◌∷◌, ◌++◌, length, map, drop, get_or, set, Option, None, Some, refl, sym, ap, ◌∙◌, subst, arith, length-append, length-set, get_or-set_same, get_or-set_other}
 use Rattle.std.specs.Prelude.{replicate}
-use Rattle.std.proofs.lemmas.List.{length-replicate, get_or-replicate, get_or_append_left}
+use Rattle.std.proofs.lemmas.List.{length-replicate, length-map, get_or-replicate, get_or_append_left}
 use Rattle.std.proofs.Math.Seq.{drop-append_seam}
 use mathlib.Core.Option as maybe
 use lib.ListN.{get_elem?}
@@ -11,9 +11,13 @@ use Rattle.wait_core.specs.declared.view.Kept.{Kept}
 use Rattle.wait_core.specs.declared.view.PartyView.{PartyView}
 use Rattle.wait_core.specs.declared.view.Size.{Size}
 use Rattle.wait_core.specs.Words.{may_at, client_base, phases, opened, opening_words}
+use Rattle.wait_core.specs.Machine.{WaitState}
 use Rattle.wait_core.specs.Parties.{newcomer}
 use Rattle.wait_core.specs.Seating.{Standing, fresh}
 use Rattle.wait_core.specs.Places.{may_sleep, past_latch, past_shutdown, backend_count, PlacesFit, IsNested}
+use Rattle.wait_core.specs.Slots.{IsAsOpened, AllAsOpened, OpeningSlots}
+use Rattle.wait_core.specs.LeftAreFree.{LeftAreFree}
+use Rattle.wait_core.specs.Promises.{IsOpening}
 use Rattle.wait_core.specs.Rule.{Rule}
 use Rattle.seat_roster.proofs.Numbers.{roster_first}
 use Rattle.wait_core.proofs.Untouched.{idle_backend}
@@ -33,6 +37,12 @@ first_place = record { nested = nested_at; unnumbered = numbered_at }
     numbered_at zero v e none = sym (ap (λ (x : Standing). x.place) (maybe.some-injective _ _ e))
     numbered_at (suc i) v e none = absurd (maybe.some-ne-none v (sym e))
 
+-- each of the first slots is as it opened
+opened_at : {phase : ℕ} (xs : List Kept) (k : ℕ) (y : Kept) → AllAsOpened phase xs → get_elem? (map maybe.some xs) k ≡ maybe.some (maybe.some y) → IsAsOpened phase y
+opened_at [] k y all e = absurd (maybe.some-ne-none _ (sym e))
+opened_at (x ∷ xs) zero y all e = subst (IsAsOpened _) (maybe.some-injective x y (maybe.some-injective _ _ e)) all.0
+opened_at (x ∷ xs) (suc k) y all e = opened_at xs k y all.1 e
+
 none_there : (p : ℕ) (f : Option Frame → Bool) → f None ≡ false → backend_count p f (record { own = Some 0; place = [] } ∷ []) ≡ 0
 none_there p f none = let a = idle_backend p f (Some 0) none in omega arith
 
@@ -42,6 +52,10 @@ module _ {C : Type 0} (holds : List ℕ → List (PartyView C) → List ℕ → 
 
   long : length machine ≡ client_base z
   long = length-set (replicate (client_base z) 0) 0 1 ∙ length-replicate {A = ℕ} (client_base z) 0
+
+  only_numbered : LeftAreFree (newcomer c (Some 0) ∷ [])
+  only_numbered zero v e none = let own = ap (λ (x : PartyView C). x.proc) (maybe.some-injective _ _ e) in absurd (cc)
+  only_numbered (suc i) v e none = absurd (maybe.some-ne-none v (sym e))
 
   pub length-opening : length (opening_words z f count) ≡ client_base z + count
   length-opening = length-append machine (opened f count) ∙ (λ i. long i + length-opened f count i)
@@ -53,9 +67,9 @@ module _ {C : Type 0} (holds : List ℕ → List (PartyView C) → List ℕ → 
   one_at : get_or (opening_words z f count) 0 0 ≡ 1
   one_at = get_or_append_left machine (opened f count) 0 0 (omega (arith, long)) ∙ get_or-set_same (replicate (client_base z) 0) 0 1 0 (let l = length-replicate {A = ℕ} (client_base z) 0 in omega arith)
 
-  pub opens : (xs : List Kept) → 0 < z.procs → z.procs ≤ 64 → holds (opened f count) (newcomer c (Some 0) ∷ []) (phases z phase) → Rule holds z phase count (opening (opening_words z f count) xs (fresh c (Some 0)))
-  opens xs some most kept = record {
-    sized = record { procs = (some, most); long = length-opening };
+  pub opens : (xs : List Kept) → OpeningSlots z phase xs → 0 < z.procs → z.procs ≤ 64 → holds (opened f count) (newcomer c (Some 0) ∷ []) (phases z phase) → Rule holds z phase count (opening (opening_words z f count) xs (fresh c (Some 0)))
+  opens xs new some most kept = record {
+    sized = record { procs = (some, most); long = length-opening; slots = length-map xs maybe.some ∙ new.count };
     flags = λ i above below. let a = zero_at i above below in omega arith;
     roster = subst (λ (n : ℕ). Rattle.seat_roster.specs.Roster.Roster z.procs n (Rattle.seat_roster.specs.Roster.numbered (Some 0) ∷ [])) (sym one_at) (roster_first z.procs some);
     counted = let a = one_at in omega arith;
@@ -63,5 +77,11 @@ module _ {C : Type 0} (holds : List ℕ → List (PartyView C) → List ℕ → 
     may = λ p below. zero_at (may_at p) (omega arith) (omega arith) ∙ sym (none_there p may_sleep refl);
     latches = λ p below come up. let a = none_there p past_latch refl in absurd (omega arith);
     shutdown = λ p below come up. let a = none_there p past_shutdown refl in absurd (omega arith);
+    slots = λ k y e. opened_at xs k y new.each e;
+    left = only_numbered;
     client = subst (λ (ws : List ℕ). holds ws (newcomer c (Some 0) ∷ []) (phases z phase)) (sym ((λ i. drop (sym long i) (machine ++ opened f count)) ∙ drop-append_seam machine (opened f count))) kept;
   }
+
+  -- so each state that is an opening does
+  pub opening_kept : (s : WaitState C) → IsOpening c f holds count z phase s → Rule holds z phase count s
+  opening_kept s o = subst (Rule holds z phase count) (sym o.is) (opens o.slots o.new o.procs.0 o.procs.1 o.kept)

@@ -20,6 +20,7 @@ use Rattle.wait_core.specs.Words.{byte_at, client_base, phases}
 use Rattle.wait_core.specs.Machine.{WaitState, Place, number_of, word_of, becomes, next, Permits, Allowed, after}
 use Rattle.wait_core.specs.Seating.{Standing, numbers_of, standing_of, party_of}
 use Rattle.wait_core.specs.Places.{PlacesFit, IsNested}
+use Rattle.wait_core.specs.LeftAreFree.{LeftAreFree}
 use Rattle.wait_core.specs.Rule.{Flags, Sized, Rule}
 use Rattle.seat_roster.proofs.Totals.{total_map, total_le}
 use Rattle.seat_roster.proofs.Stretches.{unseen}
@@ -138,7 +139,7 @@ module _ {C : Type 0} (holds : List ℕ → List (PartyView C) → List ℕ → 
       let first : get_or (set s.words i (becomes k n)) 0 0 ≡ get_or s.words 0 0 = get_or-set_other s.words i 0 (becomes k n) 0 (λ e. omega arith) in
       let numbers = sym (unseen numbers_of s.views id v w at refl) in
       record {
-        sized = record { procs = r.sized.procs; long = length-set s.words i (becomes k n) ∙ long };
+        sized = record { procs = r.sized.procs; long = length-set s.words i (becomes k n) ∙ long; slots = r.sized.slots };
         flags = flags_set z s.words i (becomes k n) r.flags (omega arith) (small_after k n (r.flags i inside.0 inside.1));
         roster = subst (λ (x : ℕ × List Numbers). Roster z.procs x.0 x.1) (λ j. (sym first j, numbers j)) r.roster;
         counted = subst (λ (x : ℕ × List Numbers). Rattle.wait_core.specs.Rule.SeatsAreCounted x.0 x.1) (λ j. (sym first j, numbers j)) r.counted;
@@ -149,6 +150,8 @@ module _ {C : Type 0} (holds : List ℕ → List (PartyView C) → List ℕ → 
             (latch_kept z s.words (map standing_of s.views) one id o (standing_of v) (standing_of w) at' own own below (omega arith) r.may r.latches k ok e refl);
         shutdown = subst (Rattle.wait_core.specs.ShutdownWakes.ShutdownWakes z (set s.words i (becomes k n))) seen
             (shutdown_kept z s.words (map standing_of s.views) one id o (standing_of v) (standing_of w) at' own own below (omega arith) r.shutdown k ok e refl);
+        slots = r.slots;
+        left = subst LeftAreFree (sym (unseen party_of s.views id v w at refl)) r.left;
         client = subst (λ (x : List ℕ × List (PartyView C)). holds x.0 x.1 (phases z phase))
             (λ j. (sym (drop-set-lt (client_base z) s.words i (becomes k n) inside.1) j, sym (unseen party_of s.views id v w at refl) j)) r.client;
       }

@@ -11,6 +11,8 @@ use Rattle.wait_core.specs.Parties.{with_client, newcomer, joined, left_over, Is
 use Rattle.wait_core.specs.Machine.{WaitState}
 use Rattle.wait_core.specs.Rule.{Rule}
 use Rattle.wait_core.specs.Runs.{Deed, machine, client, draw, seat, join, Deeds, Steps, Runs}
+use Rattle.wait_core.specs.Promises.{IsReached}
+use Rattle.wait_core.proofs.Openings.{opening_kept}
 use Rattle.wait_core.proofs.RuleKept.{machine_kept}
 use Rattle.wait_core.proofs.SeatsKept.{client_kept, draw_kept, seat_kept, join_kept}
 
@@ -34,3 +36,7 @@ module _ {C X : Type 0} (does : X → ClientOp) (may : PartyView C → X → Typ
   pub run_holds : (es : List (ℕ × Deed X)) (s t : WaitState C) → Rule holds z phase count s → Runs does may then first spent both z s es t → Rule holds z phase count t
   run_holds [] s t r h = subst (Rule holds z phase count) (sym h) r
   run_holds (e ∷ es) s t r h = run_holds es h.0 t (step_holds s h.0 e r h.1) h.2
+
+  -- so each state that is reached from an opening does
+  pub reached_holds : (opens : ℕ → ℕ) (t : WaitState C) → IsReached does may then first spent both opens holds count z phase t → Rule holds z phase count t
+  reached_holds opens t h = run_holds h.1 h.0 t (opening_kept holds z phase count opens first h.0 h.2) h.3

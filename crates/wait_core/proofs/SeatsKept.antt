@@ -1,5 +1,5 @@
 -- Steps of the client, and the drawing and joining of seats, keep the whole rule.
-use Rattle.std.proofs.Common.{◌≡◌, ℕ, zero, suc, ◌+◌, ◌<◌, ◌≤◌, List, [], ◌∷◌, ◌++◌, map, drop, length, get_or, set, Option, None, Some, refl, sym, ap, ◌∙◌, subst, arith, length-set, length-append, get_or-set_same, get_or-set_other}
+use Rattle.std.proofs.Common.{◌≡◌, ℕ, ◌+◌, ◌<◌, ◌≤◌, List, [], ◌∷◌, ◌++◌, map, drop, length, get_or, set, Option, None, Some, refl, sym, ap, ◌∙◌, subst, arith, length-set, length-append, get_or-set_same, get_or-set_other}
 use Rattle.std.proofs.lemmas.List.{drop-set-lt, drop-set-add, get_or-drop, length-map}
 use mathlib.Core.List.{map-append}
 use mathlib.Core.Option as maybe
@@ -15,11 +15,21 @@ use Rattle.wait_core.specs.Words.{client_base, phases}
 use Rattle.wait_core.specs.Machine.{WaitState}
 use Rattle.wait_core.specs.Parties.{with_client, newcomer, joined, left_over, IsStep, IsDraw, IsJoin}
 use Rattle.wait_core.specs.Seating.{Standing, numbers_of, standing_of, party_of, client_moved, with_drawn, stays, comes, took_in, spent_view}
+use Rattle.wait_core.specs.LeftAreFree.{IsFree, LeftAreFree}
+use Rattle.wait_core.specs.Promises.{LastHoldsAlone}
 use Rattle.wait_core.specs.Rule.{SeatsAreCounted, Rule}
 use Rattle.seat_roster.proofs.Totals.{total_set, total_snoc, total_at, total_two}
-use Rattle.seat_roster.proofs.Stretches.{unseen}
+use Rattle.seat_roster.proofs.Stretches.{unseen, from_seen, each_set, each_more}
 use Rattle.seat_roster.proofs.Numbers.{roster_drew, roster_gave, roster_took, pending_inside}
 use Rattle.wait_core.proofs.Untouched.{Agree, SameCounts, counts_are, counts_snoc, counts_idle, flags_same, may_same, latches_same, shutdown_same, places_snoc, places_idle}
+
+-- a seat with a number isn't one that was joined
+has_number : (own : Option ℕ) (p : ℕ) → own ≡ Some p → own ≡ None → ⊥
+has_number own p is none = absurd (cc)
+
+-- the view of a seat that was joined into another is free
+abbrev WasLeft : {C : Type 0} → PartyView C → Type 0
+WasLeft u = u.proc ≡ None → IsFree u
 
 module _ {C : Type 0} (holds : List ℕ → List (PartyView C) → List ℕ → Type 0) (z : Size) (phase count : ℕ) where
   -- there are at most as many views as numbers
@@ -42,7 +52,7 @@ module _ {C : Type 0} (holds : List ℕ → List (PartyView C) → List ℕ → 
       let numbers = sym (unseen numbers_of s.views id v w at refl) in
       let found : get_or (drop b s.words) k 0 ≡ n = get_or-drop b s.words k 0 in
       record {
-        sized = record { procs = r.sized.procs; long = length-set s.words (b + k) (f n) ∙ r.sized.long };
+        sized = record { procs = r.sized.procs; long = length-set s.words (b + k) (f n) ∙ r.sized.long; slots = r.sized.slots };
         flags = flags_same z s.words (set s.words (b + k) (f n)) (map standing_of s.views) (map standing_of (set s.views id w)) agree same r.flags;
         roster = subst (λ (x : ℕ × List Numbers). Roster z.procs x.0 x.1) (λ j. (sym first j, numbers j)) r.roster;
         counted = subst (λ (x : ℕ × List Numbers). SeatsAreCounted x.0 x.1) (λ j. (sym first j, numbers j)) r.counted;
@@ -50,6 +60,8 @@ module _ {C : Type 0} (holds : List ℕ → List (PartyView C) → List ℕ → 
         may = may_same z s.words (set s.words (b + k) (f n)) (map standing_of s.views) (map standing_of (set s.views id w)) agree same r.may;
         latches = latches_same z s.words (set s.words (b + k) (f n)) (map standing_of s.views) (map standing_of (set s.views id w)) agree same r.latches;
         shutdown = shutdown_same z s.words (set s.words (b + k) (f n)) (map standing_of s.views) (map standing_of (set s.views id w)) agree same r.shutdown;
+        slots = r.slots;
+        left = subst LeftAreFree (sym (map-set party_of s.views id w)) (each_set WasLeft (map party_of s.views) id (party_of w) r.left (λ none. absurd (has_number v.own p own none)));
         client = subst (λ (x : List ℕ × List (PartyView C)). holds x.0 x.1 (phases z phase))
             (λ i. (sym (drop-set-add b s.words k (f n)) i, sym (map-set party_of s.views id w) i))
             (subst (λ (x : ℕ). holds (set (drop b s.words) k (f x)) (set (map party_of s.views) id (with_client (party_of v) (then x))) (phases z phase)) found
@@ -67,7 +79,7 @@ module _ {C : Type 0} (holds : List ℕ → List (PartyView C) → List ℕ → 
       let first : get_or (set s.words 0 x) 0 0 ≡ next + 1 = get_or-set_same s.words 0 x 0 (omega arith) ∙ is in
       let numbers : set ns id (drew (numbers_of v)) ≡ map numbers_of (set s.views id w) = sym (map-set numbers_of s.views id w) in
       record {
-        sized = record { procs = r.sized.procs; long = length-set s.words 0 x ∙ long };
+        sized = record { procs = r.sized.procs; long = length-set s.words 0 x ∙ long; slots = r.sized.slots };
         flags = flags_same z s.words (set s.words 0 x) (map standing_of s.views) (map standing_of (set s.views id w)) agree same r.flags;
         roster = subst (λ (y : ℕ × List Numbers). Roster z.procs y.0 y.1) (λ j. (sym first j, numbers j)) (roster_drew z.procs next ns r.roster id (numbers_of v) at' own free (omega arith));
         counted = subst (λ (y : ℕ × List Numbers). SeatsAreCounted y.0 y.1) (λ j. (sym first j, numbers j))
@@ -76,6 +88,8 @@ module _ {C : Type 0} (holds : List ℕ → List (PartyView C) → List ℕ → 
         may = may_same z s.words (set s.words 0 x) (map standing_of s.views) (map standing_of (set s.views id w)) agree same r.may;
         latches = latches_same z s.words (set s.words 0 x) (map standing_of s.views) (map standing_of (set s.views id w)) agree same r.latches;
         shutdown = shutdown_same z s.words (set s.words 0 x) (map standing_of s.views) (map standing_of (set s.views id w)) agree same r.shutdown;
+        slots = r.slots;
+        left = subst LeftAreFree (sym (unseen party_of s.views id v w at refl)) r.left;
         client = subst (λ (y : List ℕ × List (PartyView C)). holds y.0 y.1 (phases z phase)) (λ j. (sym (drop-set-lt (client_base z) s.words 0 x (omega arith)) j, sym (unseen party_of s.views id v w at refl) j)) r.client;
       }
 
@@ -104,6 +118,8 @@ module _ {C : Type 0} (holds : List ℕ → List (PartyView C) → List ℕ → 
         may = may_same z s.words s.words (map standing_of s.views) (map standing_of (vs ++ w ∷ [])) agree same r.may;
         latches = latches_same z s.words s.words (map standing_of s.views) (map standing_of (vs ++ w ∷ [])) agree same r.latches;
         shutdown = shutdown_same z s.words s.words (map standing_of s.views) (map standing_of (vs ++ w ∷ [])) agree same r.shutdown;
+        slots = r.slots;
+        left = subst LeftAreFree parties (each_more WasLeft (map party_of s.views) (newcomer c (Some n)) r.left (λ none. record { attached = refl; elections = refl }));
         client = subst (λ (l : List (PartyView C)). holds (drop (client_base z) s.words) l (phases z phase)) parties
             (law (drop (client_base z) s.words) (map party_of s.views) (phases z phase) n r.client
             (record { few = omega arith; proc_below = let b = pending_inside z.procs (get_or s.words 0 0) ns r.roster id n (numbers_of v) at' drawn in omega arith }));
@@ -136,6 +152,9 @@ module _ {C : Type 0} (holds : List ℕ → List (PartyView C) → List ℕ → 
         may = may_same z s.words s.words (map standing_of s.views) (map standing_of (set vs other y)) agree same r.may;
         latches = latches_same z s.words s.words (map standing_of s.views) (map standing_of (set vs other y)) agree same r.latches;
         shutdown = shutdown_same z s.words s.words (map standing_of s.views) (map standing_of (set vs other y)) agree same r.shutdown;
+        slots = r.slots;
+        left = subst LeftAreFree parties (each_set WasLeft (set (map party_of s.views) id (joined both (party_of v) (party_of w))) other (left_over c)
+            (each_set WasLeft (map party_of s.views) id (joined both (party_of v) (party_of w)) r.left (λ none. absurd (has_number v.own p own none))) (λ none. record { attached = refl; elections = refl }));
         client = subst (λ (l : List (PartyView C)). holds (drop (client_base z) s.words) l (phases z phase)) parties
             (law (drop (client_base z) s.words) (map party_of s.views) (phases z phase) r.client
             (record { at = at_map party_of s.views id v at; own = (p, own); apart = apart; there = at_map party_of s.views other w there; free = free; few = few_views s r }));
@@ -158,9 +177,11 @@ module _ {C : Type 0} (holds : List ℕ → List (PartyView C) → List ℕ → 
   -- the same, of what the client sees
   pub others_left : (s : WaitState C) → Rule holds z phase count s → (id : ℕ) (v : WaitView C) → get_elem? s.views id ≡ maybe.some v → v.own ≡ Some 0 → length v.taken ≡ v.drawn
       → (k : ℕ) (u : PartyView C) → (k ≡ id → ⊥) → get_elem? (map party_of s.views) k ≡ maybe.some u → u.proc ≡ None
-  others_left s r id v at own all k u apart there = let w = seen s.views k there in sym (ap (λ (x : PartyView C). x.proc) w.2) ∙ others_numberless s r id v at own all k w.0 apart w.1
-    where
-      seen : (l : List (WaitView C)) (k : ℕ) → get_elem? (map party_of l) k ≡ maybe.some u → (w : WaitView C) × (get_elem? l k ≡ maybe.some w) × (party_of w ≡ u)
-      seen [] k e = absurd (maybe.some-ne-none u (sym e))
-      seen (x ∷ xs) zero e = (x, refl, maybe.some-injective (party_of x) u e)
-      seen (x ∷ xs) (suc k) e = seen xs k e
+  others_left s r id v at own all k u apart there = let w = from_seen party_of s.views k u there in sym (ap (λ (x : PartyView C). x.proc) w.2) ∙ others_numberless s r id v at own all k w.0 apart w.1
+
+  -- nor is in a call, attached to a barrier or elected by one
+  pub alone_at_last : (s : WaitState C) → Rule holds z phase count s → LastHoldsAlone s
+  alone_at_last s r i j v u apart at there own all =
+      let none = others_numberless s r i v at own all j u apart there in
+      let free = r.left j (party_of u) (at_map party_of s.views j u there) none in
+      record { numberless = none; idle = r.places.unnumbered j (standing_of u) (at_map standing_of s.views j u there) none; attached = free.attached; elections = free.elections }

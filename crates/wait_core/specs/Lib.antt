@@ -8,9 +8,12 @@ pub mod MaySleepIsMarked
 pub mod SetLatchWakes
 pub mod ShutdownWakes
 pub mod ClientHolds
+pub mod Slots
+pub mod LeftAreFree
 pub mod Rule
 pub mod Wakes
 pub mod Runs
+pub mod Promises
 pub mod Told
 pub mod Seats
 pub mod Closing

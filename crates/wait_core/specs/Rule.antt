@@ -12,11 +12,14 @@ use Rattle.wait_core.specs.MaySleepIsMarked.{MaySleepIsMarked}
 use Rattle.wait_core.specs.SetLatchWakes.{SetLatchWakes}
 use Rattle.wait_core.specs.ShutdownWakes.{ShutdownWakes}
 use Rattle.wait_core.specs.ClientHolds.{ClientHolds}
+use Rattle.wait_core.specs.Slots.{SlotsStand}
+use Rattle.wait_core.specs.LeftAreFree.{LeftAreFree}
 
--- the numbers of backends, conditions and barriers, and of words
-pub record Sized (z : Size) (count words : ℕ) : Type 0 where
+-- the numbers of backends, of words, and of slots: one for each condition and each barrier
+pub record Sized (z : Size) (count words homes : ℕ) : Type 0 where
   pub procs : (0 < z.procs) × (z.procs ≤ 64)
   pub long : words ≡ client_base z + count
+  pub slots : homes ≡ z.cvs + z.bars
 
 -- each word between the next number and the client's is 0 or 1
 abbrev pub Flags : Size → List ℕ → Type 0
@@ -28,7 +31,7 @@ SeatsAreCounted next seats = length seats + total (λ v. one_if v.pending) seats
 
 module _ {C : Type 0} (holds : List ℕ → List (PartyView C) → List ℕ → Type 0) (z : Size) (phase count : ℕ) where
   pub record Rule (s : WaitState C) : Type 0 where
-    pub sized : Sized z count (length s.words)
+    pub sized : Sized z count (length s.words) (length s.homes)
     pub flags : Flags z s.words
     pub roster : Roster z.procs (slice_index s.words 0) (map numbers_of s.views)
     pub counted : SeatsAreCounted (slice_index s.words 0) (map numbers_of s.views)
@@ -36,4 +39,6 @@ module _ {C : Type 0} (holds : List ℕ → List (PartyView C) → List ℕ → 
     pub may : MaySleepIsMarked z.procs s.words (map standing_of s.views)
     pub latches : SetLatchWakes z.procs s.words (map standing_of s.views)
     pub shutdown : ShutdownWakes z s.words (map standing_of s.views)
+    pub slots : SlotsStand phase s.homes
+    pub left : LeftAreFree (map party_of s.views)
     pub client : ClientHolds holds z phase s.words (map party_of s.views)

@@ -19,9 +19,9 @@ module _ {C : Type 0} where
   abbrev pub does_client : (ℕ → C) → (ℕ → Type 0) → Me Kept (WaitView C) → ℕ → Me Kept (WaitView C) → Type 0
   does_client c told m n m' = (m'.0 ≡ client_moved m.0 (c n)) × (m'.1 ≡ m.1) × told n
 
-  -- the number that is drawn next is one more than those drawn
-  abbrev pub looks : Step Kept → Me Kept (WaitView C) → ℕ → Me Kept (WaitView C) → Type 0
-  looks st m n m' = (m'.0 ≡ m.0) × (m'.1 ≡ m.1) × (m.0.own ≡ Some 0 → n ≡ m.0.drawn + 1)
+  -- the number that is drawn next is one more than those drawn, and at most the number of backends
+  abbrev pub looks : Size → Me Kept (WaitView C) → ℕ → Me Kept (WaitView C) → Type 0
+  looks z m n m' = (m'.0 ≡ m.0) × (m'.1 ≡ m.1) × (m.0.own ≡ Some 0 → n ≡ m.0.drawn + 1) × (n ≤ z.procs)
 
   abbrev pub draws : Step Kept → Me Kept (WaitView C) → ℕ → Me Kept (WaitView C) → Type 0
   draws st m n m' = (m'.0 ≡ with_drawn m.0) × (m'.1 ≡ m.1)

@@ -1,28 +1,24 @@
 //! Theorems over states and runs of the machine's definitions. The functions do nothing.
-ghost use Rattle.std.specs.Prelude.{◌≡◌, ◌<◌, ◌≤◌, ◌+◌, ◌∷◌, [], ℕ, List, None, Some, slice_index, length, map};
+ghost use Rattle.std.specs.Prelude.{◌≡◌, ◌<◌, ◌≤◌, ◌+◌, ℕ, List, None, Some, slice_index, length, map};
 ghost use mathlib.Core.Option as maybe;
 ghost use lib.ListN.{get_elem?};
-ghost use Rattle.atomic_table.specs.Table.{opening};
 ghost use Rattle.wait_core.specs.declared.step.WaitStep.{WaitStep};
-ghost use Rattle.wait_core.specs.declared.view.Kept.{Kept};
 ghost use Rattle.wait_core.specs.declared.view.PartyView.{PartyView};
 ghost use Rattle.wait_core.specs.declared.view.WaitView.{WaitView};
-ghost use Rattle.wait_core.specs.Words.{set_at, may_at, shut_at, client_base, client_words, opened, opening_words, phases};
+ghost use Rattle.wait_core.specs.Words.{may_at, client_base, client_words};
 ghost use Rattle.wait_core.specs.Machine.{WaitState, top, bit, Allowed, after};
-ghost use Rattle.wait_core.specs.Parties.{newcomer};
 ghost use Rattle.wait_core.specs.Places.{may_sleep};
-ghost use Rattle.wait_core.specs.Seating.{party_of, fresh};
+ghost use Rattle.wait_core.specs.Seating.{party_of};
 ghost use Rattle.wait_core.specs.Rule.{Rule};
 ghost use Rattle.wait_core.specs.Runs.{Deed, Steps, Runs, after_client};
-ghost use Rattle.wait_core.specs.Wakes.{IsAsleep, SleepsTillShutdown, LatchWakePending, ShutdownWakePending};
+ghost use Rattle.wait_core.specs.Promises.{NoSetLatchIsSleptOn, NoShutdownIsSleptThrough, LastHoldsAlone, IsOpening, IsReached};
 
 use crate::party::Party;
 use crate::view::Size;
 
 /// The opening meets the rule, where the client's law holds there.
 pub fn opening_holds<P: Party>(party: &P, size: Size, phase: u64)
-    requires { (0 < size.procs) × (size.procs ≤ 64) }
-    ensures { (homes : List Kept) → P.holds party.now (opened (P.opens party.now) (P.word_count party.now)) (newcomer (P.first party.now) (Some 0) ∷ []) (phases size phase) → Rule (P.holds party.now) size phase (P.word_count party.now) (opening (opening_words size (P.opens party.now) (P.word_count party.now)) homes (fresh (P.first party.now) (Some 0))) }
+    ensures { (s : WaitState P.View) → IsOpening (P.first party.now) (P.opens party.now) (P.holds party.now) (P.word_count party.now) size phase s → Rule (P.holds party.now) size phase (P.word_count party.now) s }
 {}
 
 /// Each step of the machine keeps the rule, kind by kind.
@@ -41,15 +37,17 @@ pub fn each_run_keeps<P: Party>(party: &P, size: Size, phase: u64)
     ensures { (es : List (ℕ × Deed P.Step)) (s t : WaitState P.View) → Rule (P.holds party.now) size phase (P.word_count party.now) s → Runs (P.does party.now) (P.may party.now) (P.after party.now) (P.first party.now) P.spent P.both size s es t → Rule (P.holds party.now) size phase (P.word_count party.now) t }
 {}
 
-/// Nobody is asleep with its own latch set and no wake pending.
+/// Whatever happens to a new table, nobody is asleep with its own latch set and no wake pending.
 pub fn set_latch_wakes<P: Party>(party: &P, size: Size, phase: u64)
-    ensures { (s : WaitState P.View) (id p : ℕ) (v : WaitView P.View) → Rule (P.holds party.now) size phase (P.word_count party.now) s → get_elem? s.views id ≡ maybe.some v → v.own ≡ Some p → IsAsleep v → slice_index s.words (set_at p) ≡ 1 → LatchWakePending p s }
+    ensures states { (s : WaitState P.View) → Rule (P.holds party.now) size phase (P.word_count party.now) s → NoSetLatchIsSleptOn s }
+    ensures runs { (s : WaitState P.View) → IsReached (P.does party.now) (P.may party.now) (P.after party.now) (P.first party.now) P.spent P.both (P.opens party.now) (P.holds party.now) (P.word_count party.now) size phase s → NoSetLatchIsSleptOn s }
 {}
 
-/// Nobody is asleep in a wait that a shutdown ends, with the shutdown word at 1 and no wake
-/// pending.
+/// Whatever happens to a new table, nobody is asleep in a wait that a shutdown ends, with the
+/// shutdown word stored and no wake pending.
 pub fn shutdown_wakes<P: Party>(party: &P, size: Size, phase: u64)
-    ensures { (s : WaitState P.View) (id p : ℕ) (v : WaitView P.View) → Rule (P.holds party.now) size phase (P.word_count party.now) s → get_elem? s.views id ≡ maybe.some v → v.own ≡ Some p → SleepsTillShutdown v → slice_index s.words (shut_at size) ≡ 1 → ShutdownWakePending p s }
+    ensures states { (s : WaitState P.View) → Rule (P.holds party.now) size phase (P.word_count party.now) s → NoShutdownIsSleptThrough size s }
+    ensures runs { (s : WaitState P.View) → IsReached (P.does party.now) (P.may party.now) (P.after party.now) (P.first party.now) P.spent P.both (P.opens party.now) (P.holds party.now) (P.word_count party.now) size phase s → NoShutdownIsSleptThrough size s }
 {}
 
 /// Whether a backend may sleep stands in its word: 0 wherever its seat is in no wait.
@@ -80,4 +78,10 @@ pub fn client_leaves_machine<P: Party>(party: &P, size: Size, phase: u64)
 /// Once the seat with the number 0 has taken over every number that it drew, no other view has one.
 pub fn others_are_left<P: Party>(party: &P, size: Size, phase: u64)
     ensures { (s : WaitState P.View) (id k : ℕ) (v : WaitView P.View) (u : PartyView P.View) → Rule (P.holds party.now) size phase (P.word_count party.now) s → get_elem? s.views id ≡ maybe.some v → v.own ≡ Some 0 → length v.taken ≡ v.drawn → (k ≡ id → ⊥) → get_elem? (map party_of s.views) k ≡ maybe.some u → u.proc ≡ None }
+{}
+
+/// The last seat holds alone: once the seat with the number 0 has taken over every number that it
+/// drew, no other has a number, is in a call, is attached to a barrier or was elected.
+pub fn last_holds_alone<P: Party>(party: &P, size: Size, phase: u64)
+    ensures { (s : WaitState P.View) → Rule (P.holds party.now) size phase (P.word_count party.now) s → LastHoldsAlone s }
 {}

@@ -1,6 +1,7 @@
 //! The words and the slots of a table at its opening.
-ghost use Rattle.std.specs.Prelude.{◌≡◌, ◌≤◌, ◌<◌, ◌+◌, IfOk, length};
+ghost use Rattle.std.specs.Prelude.{◌≡◌, ◌≤◌, IfOk};
 ghost use Rattle.wait_core.specs.Words.{opening_words};
+ghost use Rattle.wait_core.specs.Slots.{OpeningSlots};
 
 use crate::party::Party;
 use crate::view::{Kept, Record, Size};
@@ -34,7 +35,7 @@ pub(crate) fn opening_homes(
     opening_phase: u64,
 ) -> Result<Vec<Kept>, AllocError>
     requires size { (size.cvs ≤ 160) × (size.bars ≤ 72) }
-    ensures { IfOk result (λ v. length v.items ≡ size.cvs + size.bars) }
+    ensures { IfOk result (λ v. OpeningSlots size opening_phase v.items) }
 {
     let record = Record {
         phase: opening_phase,

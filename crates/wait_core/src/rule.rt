@@ -52,15 +52,6 @@ impl<V, M: Doing<V>> Play<Kept, V> for Does<M> {
     ghost then = { λ _ _ n m. M.gives n m };
 }
 
-/// The seat with the number 0 looks at the number that is drawn next.
-pub(crate) struct Looks;
-
-impl<V> Play<Kept, WaitView<V>> for Looks {
-    ghost use Rattle.wait_core.specs.Told.{looks};
-
-    ghost then = { looks };
-}
-
 pub(crate) struct Draws;
 
 impl<V> Play<Kept, WaitView<V>> for Draws {

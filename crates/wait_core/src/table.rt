@@ -12,7 +12,7 @@ ghost use Rattle.wait_core.specs.Closing.{Ends, Stood};
 use crate::closed::WaitClosed;
 use crate::opening::{opening_homes, opening_row};
 use crate::party::{ClientOp, Party};
-use crate::rule::{About, Coming, Does, Doing, Draws, Looks, Newcomer, TakesIn, WaitRule};
+use crate::rule::{About, Coming, Does, Doing, Draws, Newcomer, TakesIn, WaitRule};
 use crate::seat::WaitSeat;
 use crate::step::{WaitSeen, WaitStep};
 use crate::view::{Kept, Size, WaitView};
@@ -100,23 +100,24 @@ impl<P: Party> WaitTable<P> {
         self.about.size.procs
     }
 
-    /// Draws the next number for a new seat; only the seat with the number 0 does.
+    /// Draws the next number for a new seat; only the seat with the number 0 does. Refused exactly
+    /// where as many are drawn as there are backends.
     pub fn seat(&self, from: &mut WaitSeat<P>) -> Result<WaitSeat<P>, NoMoreProcs>
         requires table { from.old.table_id ≡ self.now.table_id }
         requires first { from.old.view.own ≡ Some 0 }
         ensures table { (from.new.table_id ≡ from.old.table_id) × (from.new.id ≡ from.old.id) }
         ensures from { MatchResult result (λ _. from.new.view ≡ after_draw from.old.view) (λ _. from.new.view ≡ from.old.view) }
-        ensures drawn { MatchResult result (λ s. (from.old.view.drawn + 1 < self.now.size.procs) × (s.table_id ≡ from.old.table_id) × (s.view ≡ fresh (P.first self.now.party) (Some (from.old.view.drawn + 1)))) (λ e. (self.now.size.procs ≤ e.drawn) × (e.drawn ≡ from.old.view.drawn + 1)) }
+        ensures drawn { MatchResult result (λ s. (from.old.view.drawn + 1 < self.now.size.procs) × (s.table_id ≡ from.old.table_id) × (s.view ≡ fresh (P.first self.now.party) (Some (from.old.view.drawn + 1)))) (λ e. (e.drawn ≡ self.now.size.procs) × (e.drawn ≡ from.old.view.drawn + 1)) }
     {
-        let shared = &self.table.shared;
-        let next = shared.load::<Looks>(&mut from.seat, 0);
+        let look = ClientOp::Load { at: 0 };
+        let next = self.make::<Brand, ClientOp>(&mut from.seat, 0, look, &look);
         if next >= u64::from(self.about.size.procs) {
             return Err(NoMoreProcs { drawn: next });
         }
         let Some(number) = ProcNo::new(next as u32) else {
             unreachable!()
         };
-        shared.fetch_add::<Draws>(&mut from.seat, 0, 1);
+        self.table.shared.fetch_add::<Draws>(&mut from.seat, 0, 1);
         let seat = self.split::<Brand>(&mut from.seat);
         Ok(WaitSeat::new(seat, number))
     }
@@ -172,10 +173,11 @@ impl<P: Party> WaitTable<P> {
         seat.backoff.snooze();
     }
 
-    /// A seat takes in another, whose number isn't given again. The other's elections and client
+    /// A seat in no call takes in another, whose number isn't given again. The other's elections and client
     /// view go to it.
     pub fn join(&self, into: &mut WaitSeat<P>, from: WaitSeat<P>)
         requires table { (into.old.table_id ≡ self.now.table_id) × (from.table_id ≡ self.now.table_id) }
+        requires into { into.old.view.place ≡ [] }
         requires free { (from.view.place ≡ []) × (from.view.attached ≡ []) }
         ensures table { (into.new.table_id ≡ into.old.table_id) × (into.new.id ≡ into.old.id) }
         ensures view { into.new.view ≡ took_in P.both into.old.view from.view }

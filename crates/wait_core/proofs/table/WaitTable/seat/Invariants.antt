@@ -1,5 +1,9 @@
+use Rattle.wait_core.specs.Told.{looks}
 use Rattle.wait_core.specs.Seating.{comes}
 use Rattle.wait_core.proofs.table.WaitTable.seat.Given as goal
+
+abbrev pub ghosts-make : goal.ghosts-make
+ghosts-make g a = record { gives = looks a.self.now.size a.seat.now.me }
 
 abbrev pub ghosts-split : goal.ghosts-split
 ghosts-split g a = record { right = comes (g.P.Party.first a.self.now.party) }

@@ -1,0 +1,49 @@
+-- The statements of the laws over states and over runs.
+use Rattle.std.specs.Prelude.{◌≡◌, ℕ, ◌<◌, ◌≤◌, List, [], ◌∷◌, length, None, Some, slice_index}
+use mathlib.Core.Option as maybe
+use lib.ListN.{get_elem?}
+use Rattle.atomic_table.specs.Table.{opening}
+use Rattle.wait_core.specs.declared.party.ClientOp.{ClientOp}
+use Rattle.wait_core.specs.declared.view.Kept.{Kept}
+use Rattle.wait_core.specs.declared.view.PartyView.{PartyView}
+use Rattle.wait_core.specs.declared.view.Size.{Size}
+use Rattle.wait_core.specs.declared.view.WaitView.{WaitView}
+use Rattle.wait_core.specs.Words.{set_at, shut_at, opened, opening_words, phases}
+use Rattle.wait_core.specs.Machine.{WaitState}
+use Rattle.wait_core.specs.Parties.{newcomer}
+use Rattle.wait_core.specs.Seating.{fresh}
+use Rattle.wait_core.specs.Slots.{OpeningSlots}
+use Rattle.wait_core.specs.Runs.{Deed, Runs}
+use Rattle.wait_core.specs.Wakes.{IsAsleep, SleepsTillShutdown, LatchWakePending, ShutdownWakePending}
+
+module _ {C : Type 0} where
+  -- nobody is asleep with its own latch set, unless a wake is pending
+  abbrev pub NoSetLatchIsSleptOn : WaitState C → Type 0
+  NoSetLatchIsSleptOn s = (id p : ℕ) (v : WaitView C) → get_elem? s.views id ≡ maybe.some v → v.own ≡ Some p → IsAsleep v → slice_index s.words (set_at p) ≡ 1 → LatchWakePending p s
+
+  -- nobody is asleep in a wait that a shutdown ends with the shutdown word stored, unless a wake is pending
+  abbrev pub NoShutdownIsSleptThrough : Size → WaitState C → Type 0
+  NoShutdownIsSleptThrough z s = (id p : ℕ) (v : WaitView C) → get_elem? s.views id ≡ maybe.some v → v.own ≡ Some p → SleepsTillShutdown v → slice_index s.words (shut_at z) ≡ 1 → ShutdownWakePending p s
+
+  -- what stays of a seat that was joined into another
+  pub record IsLeftOver (u : WaitView C) : Type 0 where
+    pub numberless : u.own ≡ None
+    pub idle : u.place ≡ []
+    pub attached : u.attached ≡ []
+    pub elections : u.elections ≡ []
+
+  -- once the seat with the number 0 has taken over every number that it drew, nothing is with any other
+  abbrev pub LastHoldsAlone : WaitState C → Type 0
+  LastHoldsAlone s = (i j : ℕ) (v u : WaitView C) → (j ≡ i → ⊥) → get_elem? s.views i ≡ maybe.some v → get_elem? s.views j ≡ maybe.some u → v.own ≡ Some 0 → length v.taken ≡ v.drawn → IsLeftOver u
+
+  -- the state of a new table, at whose words the client's law holds
+  pub record IsOpening (first : C) (opens : ℕ → ℕ) (holds : List ℕ → List (PartyView C) → List ℕ → Type 0) (count : ℕ) (z : Size) (phase : ℕ) (s : WaitState C) : Type 0 where
+    pub procs : (0 < z.procs) × (z.procs ≤ 64)
+    pub slots : List Kept
+    pub new : OpeningSlots z phase slots
+    pub kept : holds (opened opens count) (newcomer first (Some 0) ∷ []) (phases z phase)
+    pub is : s ≡ opening (opening_words z opens count) slots (fresh first (Some 0))
+
+  -- some list of events leads from an opening to the state
+  abbrev pub IsReached : {X : Type 0} → (X → ClientOp) → (PartyView C → X → Type 0) → (PartyView C → X → ℕ → C) → C → C → (C → C → C) → (ℕ → ℕ) → (List ℕ → List (PartyView C) → List ℕ → Type 0) → ℕ → Size → ℕ → WaitState C → Type 0
+  IsReached {X} does may then first spent both opens holds count z phase t = (s : WaitState C) × (es : List (ℕ × Deed X)) × IsOpening first opens holds count z phase s × Runs does may then first spent both z s es t
