@@ -68,6 +68,6 @@ read_later p LatchSet more rest r = latch_later p 1 more rest r
 read_later p Shutdown more rest r = (latch_later p 0 more rest r.0, shutdown_later 1 more rest r.1)
 
 -- steps of a wait after steps of a wait
-pub only-append : (p : ℕ) (more rest : List Made) → OnlyWaits p more → OnlyWaits p rest → OnlyWaits p (more ++ rest)
-only-append p [] rest a b = b
-only-append p (m ∷ more) rest a b = (a.0, only-append p more rest a.1 b)
+pub only-append : (p : ℕ) (u : Until) (more rest : List Made) → OnlyWaits p u more → OnlyWaits p u rest → OnlyWaits p u (more ++ rest)
+only-append p u [] rest a b = b
+only-append p u (m ∷ more) rest a b = (a.0, only-append p u more rest a.1 b)

@@ -3,6 +3,7 @@ use Rattle.std.specs.Prelude.{◌≡◌, ◌⊎◌, ℕ, zero, suc, List, [], �
 use Rattle.latch.specs.declared.wait.Woke.{Woke}
 use Rattle.latch.specs.declared.wait.Woke.TheVariants.{LatchSet, Shutdown}
 use Rattle.wait_core.specs.declared.step.Until.{Until}
+use Rattle.wait_core.specs.declared.step.Until.TheVariants.{LatchOrShutdown}
 use Rattle.wait_core.specs.declared.step.Call.{Call}
 use Rattle.wait_core.specs.declared.step.Call.TheVariants as call
 use Rattle.wait_core.specs.declared.step.WaitStep.{WaitStep}
@@ -51,32 +52,32 @@ pub record ShutSteps (procs : ℕ) (more : List Made) : Type 0 where
   pub split : more ≡ made (Shstore (Some call.Shut)) found ∷ bytes
   pub each : ByteSteps procs bytes
 
--- a step that begins no call, and reads a word that p waits for or says whether p sleeps. It changes no latch, and no word of another backend
-abbrev pub IsOfWait : ℕ → WaitStep → Type 0
-IsOfWait p (Sload q None) = q ≡ p
-IsOfWait p (Sload q (Some c)) = ⊥
-IsOfWait p (Shload None) = Unit {0}
-IsOfWait p (Shload (Some c)) = ⊥
-IsOfWait p (Mstore may) = Unit {0}
-IsOfWait p Look = Unit {0}
-IsOfWait p Drain = Unit {0}
-IsOfWait p (Sset q) = ⊥
-IsOfWait p (Reset begins) = ⊥
-IsOfWait p (Mload q) = ⊥
-IsOfWait p (Byte q) = ⊥
-IsOfWait p (Shstore begins) = ⊥
+-- A step of a wait of this kind that begins no call. It reads a word that p waits for, or says whether p sleeps; it changes no latch, and no word of another backend. The shutdown word is looked at only in a wait that a shutdown ends
+abbrev pub IsOfWait : ℕ → Until → WaitStep → Type 0
+IsOfWait p u (Sload q None) = q ≡ p
+IsOfWait p u (Sload q (Some c)) = ⊥
+IsOfWait p u (Shload None) = u ≡ LatchOrShutdown
+IsOfWait p u (Shload (Some c)) = ⊥
+IsOfWait p u (Mstore may) = Unit {0}
+IsOfWait p u Look = Unit {0}
+IsOfWait p u Drain = Unit {0}
+IsOfWait p u (Sset q) = ⊥
+IsOfWait p u (Reset begins) = ⊥
+IsOfWait p u (Mload q) = ⊥
+IsOfWait p u (Byte q) = ⊥
+IsOfWait p u (Shstore begins) = ⊥
 
 -- all of the steps are such
-abbrev pub OnlyWaits : ℕ → List Made → Type 0
-OnlyWaits p [] = Unit {0}
-OnlyWaits p (m ∷ more) = IsOfWait p m.step × OnlyWaits p more
+abbrev pub OnlyWaits : ℕ → Until → List Made → Type 0
+OnlyWaits p u [] = Unit {0}
+OnlyWaits p u (m ∷ more) = IsOfWait p u m.step × OnlyWaits p u more
 
 -- the steps of a wait: it begins with a load of the own latch, and makes no other call inside
 pub record WaitSteps (p : ℕ) (u : Until) (more : List Made) : Type 0 where
   pub found : ℕ
   pub then : List Made
   pub split : more ≡ made (Sload p (Some (call.Wait u))) found ∷ then
-  pub only : OnlyWaits p then
+  pub only : OnlyWaits p u then
 
 -- what ended a wait was read in it: the latch is looked at first
 abbrev pub WasRead : ℕ → Woke → List Made → Type 0

@@ -87,7 +87,7 @@ fn look_and_sleep<P: Party, R: Wait>(
     requires own { seat.old.view.own ≡ Some own }
     requires place { top seat.old.view.place ≡ Some (Announcing until) }
     ensures table { (seat.new.table_id ≡ seat.old.table_id) × (seat.new.id ≡ seat.old.id) }
-    ensures woke { MatchOption result ((more : List Made) × (seat.new.view ≡ went seat.old.view (Repeating until ∷ outer seat.old.view.place) more) × OnlyWaits own more) (λ w. (more : List Made) × (seat.new.view ≡ went seat.old.view (outer seat.old.view.place) more) × WasRead own w more × (until ≡ Latch → w ≡ LatchSet) × OnlyWaits own more) }
+    ensures woke { MatchOption result ((more : List Made) × (seat.new.view ≡ went seat.old.view (Repeating until ∷ outer seat.old.view.place) more) × OnlyWaits own until more) (λ w. (more : List Made) × (seat.new.view ≡ went seat.old.view (outer seat.old.view.place) more) × WasRead own w more × (until ≡ Latch → w ≡ LatchSet) × OnlyWaits own until more) }
 {
     table.step(seat, WaitStep::Mstore(true));
     let again = table.step(seat, WaitStep::Sload(own, None));
@@ -111,7 +111,7 @@ fn sleep<P: Party, R: Wait>(rt: &R, table: &WaitTable<P>, seat: &mut WaitSeat<P>
     requires table { seat.old.table_id ≡ table.now.table_id }
     requires place { top seat.old.view.place ≡ Some (Looking until) }
     ensures table { (seat.new.table_id ≡ seat.old.table_id) × (seat.new.id ≡ seat.old.id) }
-    ensures woken { (more : List Made) × (seat.new.view ≡ went seat.old.view (Repeating until ∷ outer seat.old.view.place) more) × ((p : ℕ) → OnlyWaits p more) }
+    ensures woken { (more : List Made) × (seat.new.view ≡ went seat.old.view (Repeating until ∷ outer seat.old.view.place) more) × ((p : ℕ) → OnlyWaits p until more) }
 {
     for _ in rt.forever() {
         if table.step(seat, WaitStep::Look).old == 1 {

@@ -1,13 +1,15 @@
 -- Which calls a set makes, by the steps that stand in its seat's view.
-use Rattle.std.specs.Prelude.{◌≡◌, ◌⊎◌, ℕ, List, [], ◌∷◌, ◌++◌, Some}
+use Rattle.std.specs.Prelude.{◌≡◌, ◌⊎◌, ℕ, zero, suc, List, [], ◌∷◌, ◌++◌, Some}
+use Rattle.wait_core.specs.declared.step.Until.{Until}
 use Rattle.wait_core.specs.declared.step.Until.TheVariants as until
-use Rattle.wait_core.specs.declared.step.Call.{Call}
 use Rattle.wait_core.specs.declared.step.Call.TheVariants as call
 use Rattle.wait_core.specs.declared.step.WaitStep.{WaitStep}
 use Rattle.wait_core.specs.declared.step.WaitStep.TheVariants.{Sload, Shload}
 use Rattle.wait_core.specs.declared.view.Made.{Made}
 use Rattle.wait_core.specs.Machine.{made}
-use Rattle.latch.specs.Reads.{ReadLatch, IsOfWait}
+use Rattle.latch.specs.declared.wait.Woke.{Woke}
+use Rattle.latch.specs.declared.wait.Woke.TheVariants as woke
+use Rattle.latch.specs.Reads.{ReadLatch, WaitSteps, WasRead}
 use Rattle.wait_event_set.specs.declared.set.Event.{Event}
 use Rattle.wait_event_set.specs.declared.set.Event.TheVariants.{Latch, Shutdown}
 use Rattle.wait_event_set.specs.declared.set.Member.{Member}
@@ -31,23 +33,37 @@ pub record LooksOnce (p : ℕ) (ms : List Member) (more : List Made) : Type 0 wh
   pub latch : LooksAt p Latch ms first
   pub shutdown : (ReadLatch p 1 first × (then ≡ [])) ⊎ (NotReady p Latch ms first × LooksAt p Shutdown ms then)
 
--- The calls that a wait for the set makes: waits, for the latch alone where the set has no shutdown member and else for the latch or a shutdown; and loads of the shutdown word where it has no latch
-abbrev pub IsCallOfWait : List Member → Call → Type 0
-IsCallOfWait ms (call.Wait until.Latch) = NoneSuch Shutdown ms
-IsCallOfWait ms (call.Wait until.LatchOrShutdown) = (at : ℕ) × FirstAt Shutdown ms at
-IsCallOfWait ms call.IsShut = NoneSuch Latch ms
-IsCallOfWait ms (call.Set q) = ⊥
-IsCallOfWait ms call.Reset = ⊥
-IsCallOfWait ms call.IsSet = ⊥
-IsCallOfWait ms call.Shut = ⊥
+-- a wait of this kind that ended so
+abbrev pub WaitEnded : ℕ → Until → Woke → List Made → Type 0
+WaitEnded p u w more = WaitSteps p u more × WasRead p w more
 
--- a step that begins a call begins one of these, and any other is a step inside a wait
-abbrev pub IsOfSetWait : ℕ → List Member → WaitStep → Type 0
-IsOfSetWait p ms (Sload q (Some c)) = (q ≡ p) × IsCallOfWait ms c
-IsOfSetWait p ms (Shload (Some c)) = IsCallOfWait ms c
-IsOfSetWait p ms k = IsOfWait p k
+-- the look at the shutdown word that follows a wait
+abbrev pub looked_again : ℕ → Made
+looked_again n = made (Shload (Some call.IsShut)) n
 
--- all of the steps are such
-abbrev pub OnlySetWaits : ℕ → List Member → List Made → Type 0
-OnlySetWaits p ms [] = Unit {0}
-OnlySetWaits p ms (m ∷ more) = IsOfSetWait p ms m.step × OnlySetWaits p ms more
+-- so many waits that the latch ended, each followed by one look at the shutdown word, which read 0
+abbrev pub WokenInVain : ℕ → ℕ → List Made → Type 0
+WokenInVain p zero more = more ≡ []
+WokenInVain p (suc n) more = (before wait : List Made) × WokenInVain p n before × WaitEnded p until.LatchOrShutdown woke.LatchSet wait × (more ≡ before ++ (wait ++ looked_again 0 ∷ []))
+
+-- a wait that a shutdown ended, or one that the latch ended and after which a look at the shutdown word read 1
+abbrev pub SawShutdown : ℕ → List Made → Type 0
+SawShutdown p more = WaitEnded p until.LatchOrShutdown woke.Shutdown more ⊎ ((wait : List Made) × WaitEnded p until.LatchOrShutdown woke.LatchSet wait × (more ≡ wait ++ looked_again 1 ∷ []))
+
+-- the steps of a wait for a shutdown alone: whenever the latch ends a wait in vain, the next begins
+pub record WaitsForShutdown (p : ℕ) (more : List Made) : Type 0 where
+  pub rounds : ℕ
+  pub vain : List Made
+  pub last : List Made
+  pub split : more ≡ vain ++ last
+  pub woken : WokenInVain p rounds vain
+  pub saw : SawShutdown p last
+
+-- a wait for the set is one for the latch alone where the set has no shutdown member
+abbrev pub IsWaitFor : List Member → Until → Type 0
+IsWaitFor ms until.Latch = NoneSuch Shutdown ms
+IsWaitFor ms until.LatchOrShutdown = (at : ℕ) × FirstAt Shutdown ms at
+
+-- the steps of a wait for the set: one wait where the set has a latch, and else a wait for a shutdown alone
+abbrev pub SetWaits : ℕ → List Member → List Made → Type 0
+SetWaits p ms more = ((at : ℕ) × (u : Until) × FirstAt Latch ms at × IsWaitFor ms u × WaitSteps p u more) ⊎ (NoneSuch Latch ms × WaitsForShutdown p more)

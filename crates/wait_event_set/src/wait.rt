@@ -3,8 +3,7 @@ ghost use Rattle.std.specs.Prelude.{◌≡◌, ◌<◌, ℕ, [], ◌∷◌, List
 ghost use Rattle.wait_core.specs.declared.view.Made.{Made};
 ghost use Rattle.wait_core.specs.Machine.{made};
 ghost use Rattle.latch.specs.Reads.{later, ReadShutdown};
-ghost use Rattle.wait_event_set.specs.declared.set.Event.TheVariants as event;
-ghost use Rattle.wait_event_set.specs.Calls.{load_of, LooksAt, LooksOnce, OnlySetWaits};
+ghost use Rattle.wait_event_set.specs.Calls.{load_of, LooksAt, LooksOnce, SetWaits, WaitsForShutdown};
 ghost use Rattle.wait_event_set.specs.Members.{FirstAt, NoneSuch};
 ghost use Rattle.wait_event_set.specs.Occurs.{Reports, Occurs, ReadEvent, NotReady, NothingReady};
 
@@ -36,7 +35,7 @@ impl EventSet {
         requires place { seat.old.view.place ≡ [] }
         ensures table { (seat.new.table_id ≡ seat.old.table_id) × (seat.new.id ≡ seat.old.id) }
         ensures occurred { (p : ℕ) × (more : List Made) × (seat.old.view.own ≡ Some p) × (seat.new.view ≡ later seat.old.view more) × Occurs p self.now result more }
-        ensures calls { (p : ℕ) × (more : List Made) × (seat.old.view.own ≡ Some p) × (seat.new.view ≡ later seat.old.view more) × OnlySetWaits p self.now more }
+        ensures calls { (p : ℕ) × (more : List Made) × (seat.old.view.own ≡ Some p) × (seat.new.view ≡ later seat.old.view more) × SetWaits p self.now more }
     {
         let own = seat.proc();
         match (self.first(Event::Latch), self.first(Event::Shutdown)) {
@@ -49,7 +48,7 @@ impl EventSet {
                 Woke::Shutdown => self.occurred(Event::Shutdown, stop),
             },
             (None, Some(stop)) => {
-                self.wait_shutdown(rt, table, seat, own);
+                wait_shutdown(rt, table, seat, own);
                 self.occurred(Event::Shutdown, stop)
             }
             (None, None) => unreachable!(),
@@ -94,33 +93,6 @@ impl EventSet {
         Some(self.occurred(event, at))
     }
 
-    // Waits for a shutdown alone, in a set without a latch. A wait ends where the latch is set too,
-    // and then looks once more.
-    fn wait_shutdown<P: Party, R: Wait>(
-        &self,
-        rt: &R,
-        table: &WaitTable<P>,
-        seat: &mut WaitSeat<P>,
-        own: ProcNo,
-    )
-        requires members { NoneSuch event.Latch self.now × ((at : ℕ) × FirstAt event.Shutdown self.now at) }
-        requires table { seat.old.table_id ≡ table.now.table_id }
-        requires own { seat.old.view.own ≡ Some own }
-        requires place { seat.old.view.place ≡ [] }
-        ensures table { (seat.new.table_id ≡ seat.old.table_id) × (seat.new.id ≡ seat.old.id) }
-        ensures stopped { (more : List Made) × (seat.new.view ≡ later seat.old.view more) × ReadShutdown 1 more × OnlySetWaits own self.now more }
-    {
-        for _ in rt.forever() {
-            if let Woke::Shutdown = wait_latch(rt, table, seat) {
-                return;
-            }
-            if read_shutdown(table, seat) {
-                return;
-            }
-        }
-        unreachable!()
-    }
-
     // The report of the first member with this event, which stands here.
     fn occurred(&self, event: Event, at: u32) -> Occurred
         requires { FirstAt event self.now at }
@@ -147,4 +119,29 @@ fn read<P: Party>(event: Event, table: &WaitTable<P>, seat: &mut WaitSeat<P>, ow
         Event::Latch => latch_is_set(table, seat),
         Event::Shutdown => read_shutdown(table, seat),
     }
+}
+
+// Waits for a shutdown alone. A wait ends where the latch is set too, and then the shutdown word is
+// looked at once more.
+fn wait_shutdown<P: Party, R: Wait>(
+    rt: &R,
+    table: &WaitTable<P>,
+    seat: &mut WaitSeat<P>,
+    own: ProcNo,
+)
+    requires table { seat.old.table_id ≡ table.now.table_id }
+    requires own { seat.old.view.own ≡ Some own }
+    requires place { seat.old.view.place ≡ [] }
+    ensures table { (seat.new.table_id ≡ seat.old.table_id) × (seat.new.id ≡ seat.old.id) }
+    ensures stopped { (more : List Made) × (seat.new.view ≡ later seat.old.view more) × ReadShutdown 1 more × WaitsForShutdown own more }
+{
+    for _ in rt.forever() {
+        if let Woke::Shutdown = wait_latch(rt, table, seat) {
+            return;
+        }
+        if read_shutdown(table, seat) {
+            return;
+        }
+    }
+    unreachable!()
 }

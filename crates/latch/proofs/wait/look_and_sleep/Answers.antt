@@ -24,7 +24,7 @@ returns-clause-woke g c =
       | in-LatchOrShutdown+else-step-eq1 w ↦
           let asks : List Made = looks ++ made (Shload None) 0 ∷ [] in
           let asked = ap (λ s. s.view) w.seat-is ∙ went_on z v _ _ (watching u ∷ rest) looks (Shload None) _ 0 looked w.step-in-LatchOrShutdown.ensures.view (clear_or_set w.step-in-LatchOrShutdown.result.old w.step-in-LatchOrShutdown.ensures.told w.if-step-eq1.false) in
-          (asks ++ sleeps.0, went_through v _ _ _ (Repeating u ∷ rest) asks sleeps.0 asked (sleeps.1 ∙ ap (λ x. went c.match-until.seat.view (Repeating u ∷ outer x.place) sleeps.0) asked), (tt, (refl, (tt, sleeps.2 c.args.own))))
+          (asks ++ sleeps.0, went_through v _ _ _ (Repeating u ∷ rest) asks sleeps.0 asked (sleeps.1 ∙ ap (λ x. went c.match-until.seat.view (Repeating u ∷ outer x.place) sleeps.0) asked), (tt, (refl, (w.in-LatchOrShutdown.is, sleeps.2 c.args.own))))
       | in_default w ↦
           let stands = ap (λ s. s.view) w.seat-is ∙ looked in
           (looks ++ sleeps.0, went_through v _ _ _ (Repeating u ∷ rest) looks sleeps.0 stands (sleeps.1 ∙ ap (λ x. went c.match-until.seat.view (Repeating u ∷ outer x.place) sleeps.0) stands), (tt, (refl, sleeps.2 c.args.own)))

@@ -7,4 +7,4 @@ use Rattle.latch.proofs.wait.sleep.Given as goal
 
 abbrev pub invariant-loop : goal.invariant-loop
 invariant-loop g l = (l.seat.table_id ≡ l.fn.seat.table_id) × (l.seat.id ≡ l.fn.seat.id)
-    × ((b : Bool) × (more : List Made) × (l.seat.view ≡ went l.fn.seat.view (watches l.fn.until b ∷ outer l.fn.seat.view.place) more) × ((p : ℕ) → OnlyWaits p more))
+    × ((b : Bool) × (more : List Made) × (l.seat.view ≡ went l.fn.seat.view (watches l.fn.until b ∷ outer l.fn.seat.view.place) more) × ((p : ℕ) → OnlyWaits p l.fn.until more))

@@ -9,4 +9,4 @@ use Rattle.latch.proofs.wait.wait_until.Given as goal
 
 abbrev pub invariant-loop : goal.invariant-loop
 invariant-loop g l = (l.seat.table_id ≡ l.fn.seat.table_id) × (l.seat.id ≡ l.fn.seat.id)
-    × ((more : List Made) × (l.seat.view ≡ went l.fn.seat.view (Announcing l.until ∷ l.fn.seat.view.place) (made (Sload l.own (Some (call.Wait l.until))) 0 ∷ more)) × OnlyWaits l.own more)
+    × ((more : List Made) × (l.seat.view ≡ went l.fn.seat.view (Announcing l.until ∷ l.fn.seat.view.place) (made (Sload l.own (Some (call.Wait l.until))) 0 ∷ more)) × OnlyWaits l.own l.until more)

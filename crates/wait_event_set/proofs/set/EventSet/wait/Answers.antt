@@ -1,25 +1,30 @@
-use Rattle.std.proofs.Common.{MatchOption, subst}
+use Rattle.std.proofs.Common.{MatchOption, inl, inr, subst}
 use Rattle.wait_core.specs.declared.step.Until.TheVariants as until
 use Rattle.wait_event_set.specs.declared.set.Event.TheVariants.{Latch, Shutdown}
 use Rattle.wait_event_set.specs.Members.{NoneSuch, FirstAt}
-use Rattle.wait_event_set.proofs.Calling.{waits}
 use Rattle.wait_event_set.proofs.Found.{some_member}
 use Rattle.wait_event_set.proofs.set.EventSet.wait.Goals as goal
 
 pub returns-in-Some-None-clause-calls : goal.returns-in-Some-None-clause-calls
 returns-in-Some-None-clause-calls g c =
     let set = c.wait_latch_only.ensures.set in
-    (_, _, set.2, set.3, waits set.0 c.args.self.now until.Latch set.1 c.in-Some-None.ensures' set.4)
+    (_, _, set.2, set.3, inl (c.in-Some-None.at, until.Latch, c.in-Some-None.ensures, c.in-Some-None.ensures', set.4))
 
 pub returns-in-LatchSet-clause-calls : goal.returns-in-LatchSet-clause-calls
 returns-in-LatchSet-clause-calls g c =
     let woke = c.wait_latch.ensures.woke in
-    (_, _, woke.2, woke.3, waits woke.0 c.args.self.now until.LatchOrShutdown woke.1 (c.in-Some-Some.stop, c.in-Some-Some.ensures') woke.4)
+    (_, _, woke.2, woke.3, inl (c.in-Some-Some.at, until.LatchOrShutdown, c.in-Some-Some.ensures, (c.in-Some-Some.stop, c.in-Some-Some.ensures'), woke.4))
 
 pub returns-in-Shutdown-clause-calls : goal.returns-in-Shutdown-clause-calls
 returns-in-Shutdown-clause-calls g c =
     let woke = c.wait_latch.ensures.woke in
-    (_, _, woke.2, woke.3, waits woke.0 c.args.self.now until.LatchOrShutdown woke.1 (c.in-Some-Some.stop, c.in-Some-Some.ensures') woke.4)
+    (_, _, woke.2, woke.3, inl (c.in-Some-Some.at, until.LatchOrShutdown, c.in-Some-Some.ensures, (c.in-Some-Some.stop, c.in-Some-Some.ensures'), woke.4))
+
+pub returns-in-None-Some-clause-calls : goal.returns-in-None-Some-clause-calls
+returns-in-None-Some-clause-calls g c =
+    let stopped = c.wait_shutdown.ensures.stopped in
+    let none = subst (λ r. MatchOption r (NoneSuch Latch c.args.self.now) (λ at. FirstAt Latch c.args.self.now at)) c.in-None-Some.is-0 c.first.ensures in
+    (_, _, c.proc-own.ensures, stopped.1, inr (none, stopped.3))
 
 pub unreachable-requires : goal.unreachable-requires
 unreachable-requires g c =
