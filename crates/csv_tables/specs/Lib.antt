@@ -5,4 +5,6 @@ pub mod Appending
 pub mod Text
 pub mod Sides
 pub mod Memory
+pub mod Calls
+pub mod Streams
 pub mod RowWriter

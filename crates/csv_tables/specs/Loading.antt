@@ -37,6 +37,15 @@ Loads told key (Err load.Open) = Unit {0}
 Loads told key (Err load.Read) = Unit {0}
 Loads told key (Err load.NoMemory) = Unit {0}
 
+-- the answer isn't that an open or a read failed
+abbrev pub NothingFailed : {T : Type 0} → Result T LoadFault → Type 0
+NothingFailed (Ok t) = Unit {0}
+NothingFailed (Err load.Open) = ⊥
+NothingFailed (Err load.Read) = ⊥
+NothingFailed (Err load.TooLong) = Unit {0}
+NothingFailed (Err (load.Bad f)) = Unit {0}
+NothingFailed (Err load.NoMemory) = Unit {0}
+
 -- what each answer says of the counts of opens and of reads
 abbrev pub LoadCause : {T : Type 0} → ℕ → ℕ → ℕ → ℕ → Result T LoadFault → Type 0
 LoadCause opens opens' reads reads' (Ok t) = (opens' ≡ opens) × (reads' ≡ reads)

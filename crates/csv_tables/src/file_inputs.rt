@@ -61,6 +61,8 @@ where
 
     ghost read_faults = { λ s side. at_side side s.inner_reads s.outer_reads };
 
+    ghost is_steady = { λ _. ⊥ };
+
     fn open(&mut self, side: Side, name: &str) -> Result<(), Failed> {
         match fs::open(self.rt, name) {
             Ok(file) => {

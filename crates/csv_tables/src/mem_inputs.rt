@@ -1,12 +1,15 @@
 //! Inputs in memory, which fail at the calls they are told to.
 
-ghost use Rattle.std.specs.Prelude.{◌≡◌, ◌<◌, ◌≤◌, Some, IfSome, IsSome, length, take};
-ghost use Rattle.std.specs.Io.KnownBytes.{Consumes, IsAtEnd};
-ghost use Rattle.csv_tables.specs.Sides.{at_side};
+ghost use Rattle.std.specs.Prelude.{◌≡◌, ◌<◌, ◌≤◌, None, Some, IfNone, IfOk, IfSome, IsSome, OnOk, is_err, length, take};
+ghost use Rattle.std.specs.Io.KnownBytes.{Consumes, IsAtEnd, ReadConsumes};
+ghost use Rattle.csv_tables.specs.Calls.{IsAsMade, IsOpen, LeavesSide, fails_to_open, fails_to_read, left_at, next_call, opens_at, reads_at};
+ghost use Rattle.csv_tables.specs.Faults.{HasCause};
+ghost use Rattle.csv_tables.specs.Sides.{at_side, other};
 ghost use Rattle.csv_tables.specs.Memory.{bytes_at, held_in, left_of};
 
 use crate::inputs::{Failed, Inputs};
 use row_model::Side;
+use std::marker::Model;
 
 /// Files in memory, by name; of several with one name the first counts. A read gives at most
 /// `piece` bytes, and the calls in `failing` fail, counted from 1 over opens and reads together.
@@ -22,16 +25,28 @@ pub struct MemInputs {
     inner_reads: u64,
     outer_opens: u64,
     outer_reads: u64,
-    ghost piece_some: { 0 < piece },
+}
+
+impl Model for MemInputs {
+    ghost use Rattle.std.specs.Prelude.{◌<◌};
+    ghost use Rattle.csv_tables.specs.Memory.{Readable};
+
+    ghost Value = { Readable };
+
+    ghost view = { λ s. record { files = s.files.items; failing = s.failing.items; piece = s.piece; calls = s.calls; inner = s.inner; outer = s.outer;
+        inner_opens = s.inner_opens; inner_reads = s.inner_reads; outer_opens = s.outer_opens; outer_reads = s.outer_reads } };
+
+    ghost invariant = { λ s. 0 < s.piece };
 }
 
 impl MemInputs {
     /// These files, none of them open.
     pub fn new(files: Vec<(String, Vec<u8>)>, failing: Vec<u64>, piece: usize) -> MemInputs
         requires { 0 < piece }
-        ensures files { result.files ≡ files }
-        ensures failing { result.failing ≡ failing }
+        ensures files { result.files ≡ files.items }
+        ensures failing { result.failing ≡ failing.items }
         ensures piece { result.piece ≡ piece }
+        ensures calls { result.calls ≡ 0 }
     {
         MemInputs {
             files,
@@ -50,7 +65,8 @@ impl MemInputs {
 
 // The number of the first file of this name.
 fn find_file(files: &[(String, Vec<u8>)], name: &str) -> Option<usize>
-    ensures { IfSome result (λ i. held_in files.now name.now ≡ Some (bytes_at files.now i)) }
+    ensures there { IfSome result (λ i. held_in files.now name.now ≡ Some (bytes_at files.now i)) }
+    ensures missing { IfNone result (held_in files.now name.now ≡ None) }
 {
     'files: for i in 0..files.len() {
         let file = &files[i];
@@ -82,6 +98,7 @@ fn read_at(
     requires piece { 0 < piece }
     requires room { 0 < length into.old }
     ensures count { result ≤ length into.new }
+    ensures piece { result ≤ piece }
     ensures bytes { Consumes (left_of files.now place.old) (left_of files.now place.new) (take result into.new) }
     ensures end { result ≡ 0 → IsAtEnd (left_of files.now place.new) }
     ensures is_open { IsSome place.old → IsSome place.new }
@@ -100,13 +117,13 @@ fn read_at(
 }
 
 impl Inputs for MemInputs {
-    ghost use Rattle.std.specs.Prelude.{IsSome};
+    ghost use Rattle.std.specs.Prelude.{◌≡◌, [], IsSome};
     ghost use Rattle.csv_tables.specs.Sides.{at_side};
     ghost use Rattle.csv_tables.specs.Memory.{held_in, left_of};
 
-    ghost held = { λ s. held_in s.files.items };
+    ghost held = { λ s. held_in s.files };
 
-    ghost left = { λ s side. left_of s.files.items (at_side side s.inner s.outer) };
+    ghost left = { λ s side. left_of s.files (at_side side s.inner s.outer) };
 
     ghost may_open = { λ _ _ _. Unit {0} };
 
@@ -116,7 +133,19 @@ impl Inputs for MemInputs {
 
     ghost read_faults = { λ s side. at_side side s.inner_reads s.outer_reads };
 
-    fn open(&mut self, side: Side, name: &str) -> Result<(), Failed> {
+    ghost is_steady = { λ s. s.failing ≡ [] };
+
+    // It fails exactly where it is told to, or nothing is held under the name.
+    fn open(&mut self, side: Side, name: &str) -> Result<(), Failed>
+        ensures fails { is_err result ≡ fails_to_open self.old name.now }
+        ensures made { IsAsMade self.old self.new }
+        ensures call { self.new.calls ≡ next_call self.old.calls }
+        ensures bytes { OnOk result (left_at self.new side ≡ held_in self.old.files name.now) }
+        ensures may { OnOk result (IsOpen self.new side) }
+        ensures cause { HasCause (opens_at self.old side) (opens_at self.new side) result }
+        ensures reads { reads_at self.new side ≡ reads_at self.old side }
+        ensures others { LeavesSide self.old self.new (other side) }
+    {
         self.calls = self.calls.saturating_add(1);
         if !self.failing.contains(&self.calls) {
             if let Some(index) = find_file(self.files.as_slice(), name) {
@@ -134,7 +163,21 @@ impl Inputs for MemInputs {
         Err(Failed)
     }
 
-    fn read(&mut self, side: Side, into: &mut [u8]) -> Result<usize, Failed> {
+    // It fails exactly where it is told to, and gives at most `piece` bytes.
+    fn read(&mut self, side: Side, into: &mut [u8]) -> Result<usize, Failed>
+        requires may { IsOpen self.old side }
+        requires room { 0 < length into.old }
+        ensures fails { is_err result ≡ fails_to_read self.old }
+        ensures piece { IfOk result (λ n. n ≤ self.old.piece) }
+        ensures made { IsAsMade self.old self.new }
+        ensures call { self.new.calls ≡ next_call self.old.calls }
+        ensures count { IfOk result (λ n. n ≤ length into.new) }
+        ensures bytes { ReadConsumes (left_at self.old side) (left_at self.new side) result into.new }
+        ensures again { IsOpen self.new side }
+        ensures cause { HasCause (reads_at self.old side) (reads_at self.new side) result }
+        ensures opens { opens_at self.new side ≡ opens_at self.old side }
+        ensures others { LeavesSide self.old self.new (other side) }
+    {
         self.calls = self.calls.saturating_add(1);
         if self.failing.contains(&self.calls) {
             match side {

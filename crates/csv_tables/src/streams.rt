@@ -1,9 +1,10 @@
 //! The sinks of a process, over its two output streams. What they take, they tell as far as the
 //! stream does, and a real one tells nothing: this is the trusted edge.
 
-ghost use Rattle.std.specs.Prelude.{◌<◌, ◌≤◌, IfOk, OnErr, length, take};
+ghost use Rattle.std.specs.Prelude.{◌≡◌, ◌<◌, ◌≤◌, [], IfOk, OnErr, OnOk, length, take};
 ghost use Rattle.std.specs.Io.KnownBytes.{Appends, Keeps};
 ghost use Rattle.csv_tables.specs.Faults.{HasCause};
+ghost use Rattle.csv_tables.specs.Streams.{faults_of, gathered_of, taken_of};
 
 use crate::inputs::Failed;
 use crate::sink::Sink;
@@ -32,7 +33,11 @@ impl<W: Write + Drop> StdoutSink<W> {
     }
 
     /// Writes what was gathered. A fault of it counts as one of `write` does.
-    pub fn flush(&mut self) -> Result<(), Failed> {
+    pub fn flush(&mut self) -> Result<(), Failed>
+        ensures cause { HasCause (faults_of self.old) (faults_of self.new) result }
+        ensures taken { Keeps (taken_of W.contents self.old) (taken_of W.contents self.new) }
+        ensures gathered { OnOk result (gathered_of self.new ≡ []) }
+    {
         if self.writer.flush().is_err() {
             self.faults = self.faults.saturating_add(1);
             return Err(Failed);
@@ -42,11 +47,14 @@ impl<W: Write + Drop> StdoutSink<W> {
 }
 
 impl<W: Write + Drop> Sink for StdoutSink<W> {
+    ghost use Rattle.std.specs.Prelude.{None};
     ghost use Rattle.std.specs.Io.Buffered.{writer_contents};
 
     ghost taken = { λ s. writer_contents W.contents s.writer };
 
     ghost faults = { λ s. s.faults };
+
+    ghost capacity = { λ _. None };
 
     fn write(&mut self, piece: &[u8]) -> Result<usize, Failed> {
         write_some(&mut self.writer, &mut self.faults, piece)
@@ -68,9 +76,13 @@ impl<W: Write + Drop> StderrSink<W> {
 }
 
 impl<W: Write + Drop> Sink for StderrSink<W> {
+    ghost use Rattle.std.specs.Prelude.{None};
+
     ghost taken = { λ s. W.contents s.writer };
 
     ghost faults = { λ s. s.faults };
+
+    ghost capacity = { λ _. None };
 
     fn write(&mut self, piece: &[u8]) -> Result<usize, Failed> {
         write_some(&mut self.writer, &mut self.faults, piece)

@@ -1,13 +1,13 @@
 //! An input read to its end, and the table of its records.
 
-ghost use Rattle.std.specs.Prelude.{◌≡◌, ◌<◌, ◌++◌, ◌∷◌, ℕ, List, [], length, Some, None, Err, IfOk, OnOk};
+ghost use Rattle.std.specs.Prelude.{◌≡◌, ◌<◌, ◌++◌, ◌∷◌, ℕ, List, [], length, Some, None, Err, IfOk, IsSome, OnOk};
 ghost use Rattle.csv.specs.Reading.{NotLengths, error_kind};
 ghost use Rattle.csv.specs.Records.{fields_of};
 ghost use Rattle.row_model.specs.Form.{fault_so_far, form_fault, table_of};
 ghost use Rattle.row_model.specs.declared.RowFault.{RowFault};
 ghost use Rattle.csv_tables.specs.Faults.{KeepsSide};
 ghost use Rattle.csv_tables.specs.Sides.{other};
-ghost use Rattle.csv_tables.specs.Loading.{ReadsAll, Loads, LoadsText, LoadCause};
+ghost use Rattle.csv_tables.specs.Loading.{ReadsAll, Loads, LoadsText, LoadCause, NothingFailed};
 ghost use Rattle.csv_tables.specs.Records.{records_of};
 
 use crate::LoadFault;
@@ -26,6 +26,8 @@ fn read_rest<I: Inputs>(alloc: Global, inputs: &mut I, side: Side) -> Result<Vec
     ensures held { I.held inputs.new ≡ I.held inputs.old }
     ensures cause { LoadCause (I.open_faults inputs.old side) (I.open_faults inputs.new side) (I.read_faults inputs.old side) (I.read_faults inputs.new side) result }
     ensures others { KeepsSide I.left I.may_open I.may_read I.open_faults I.read_faults inputs.old inputs.new (other side) }
+    ensures steady { I.is_steady inputs.old → I.is_steady inputs.new }
+    ensures calm { I.is_steady inputs.old → NothingFailed result }
 {
     let mut buffer = [0u8; 8192];
     let mut bytes = Vec::new(alloc);
@@ -61,6 +63,8 @@ pub fn read_all<I: Inputs>(
     ensures held { I.held inputs.new ≡ I.held inputs.old }
     ensures cause { LoadCause (I.open_faults inputs.old side) (I.open_faults inputs.new side) (I.read_faults inputs.old side) (I.read_faults inputs.new side) result }
     ensures others { KeepsSide I.left I.may_open I.may_read I.open_faults I.read_faults inputs.old inputs.new (other side) }
+    ensures steady { I.is_steady inputs.old → I.is_steady inputs.new }
+    ensures calm { I.is_steady inputs.old → IsSome (I.held inputs.old name.now) → NothingFailed result }
 {
     if inputs.open(side, name).is_err() {
         return Err(LoadFault::Open);
@@ -130,6 +134,8 @@ pub fn load<I: Inputs>(
     ensures held { I.held inputs.new ≡ I.held inputs.old }
     ensures cause { LoadCause (I.open_faults inputs.old side) (I.open_faults inputs.new side) (I.read_faults inputs.old side) (I.read_faults inputs.new side) result }
     ensures others { KeepsSide I.left I.may_open I.may_read I.open_faults I.read_faults inputs.old inputs.new (other side) }
+    ensures steady { I.is_steady inputs.old → I.is_steady inputs.new }
+    ensures calm { I.is_steady inputs.old → IsSome (I.held inputs.old name.now) → NothingFailed result }
 {
     let text = read_all(alloc, inputs, side, name)?;
     match load_text(alloc, text.as_slice(), key) {

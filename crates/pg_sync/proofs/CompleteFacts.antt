@@ -31,7 +31,7 @@ inner_calm before now f g status.WriteFault h = h.0
 inner_calm before now f g status.NoMemory h = h.0
 
 -- a side that is a table is refused for nothing
-side_refusal-table : (s : _) (key bytes : List ℕ) → IsTable key bytes → side_refusal s key bytes ≡ None
+pub side_refusal-table : (s : _) (key bytes : List ℕ) → IsTable key bytes → side_refusal s key bytes ≡ None
 side_refusal-table s key bytes h = rw (le-ltb _ _ h.0, h.1) refl
 
 side_refusal-long : (s : _) (key bytes : List ℕ) → input_limit < length bytes → side_refusal s key bytes ≡ Some (status.TooLong s)

@@ -1,2 +1,4 @@
 pub mod WordFacts
 pub mod CompleteFacts
+pub mod WrittenFacts
+pub mod FaultlessFacts

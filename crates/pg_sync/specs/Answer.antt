@@ -1,5 +1,5 @@
 -- What a join of two inputs answers, why, and what it has written.
-use Rattle.std.specs.Prelude.{◌≡◌, ◌<◌, ◌≤◌, ◌⊎◌, ℕ, nat_lt, if◌then◌else◌, List, length, Option, Some, None, IfSome, option_map}
+use Rattle.std.specs.Prelude.{◌≡◌, ◌+◌, ◌<◌, ◌≤◌, ◌⊎◌, ℕ, nat_lt, if◌then◌else◌, List, [], length, Option, Some, None, IfSome, IsSome, option_map}
 use Rattle.std.specs.Io.KnownBytes.{Appends}
 use Rattle.row_model.specs.declared.RowFault.{RowFault}
 use Rattle.row_model.specs.declared.Side.{Side}
@@ -20,12 +20,6 @@ use Rattle.pg_sync.specs.Words.{Job}
 abbrev pub text_of : Job → List ℕ → List ℕ → List ℕ
 text_of job inner outer = joined_text (table_of (records_of outer) job.outer_key) (table_of (records_of inner) job.inner_key)
 
--- the same, where the bytes of both inputs are told
-abbrev pub told_text : Job → Option (List ℕ) → Option (List ℕ) → Option (List ℕ)
-told_text job (Some inner) (Some outer) = Some (text_of job inner outer)
-told_text job (Some inner) None = None
-told_text job None outer = None
-
 -- what the bytes of one side alone are refused for: their length, else their first fault of form
 abbrev pub side_refusal : Side → List ℕ → List ℕ → Option Status
 side_refusal s key bytes =
@@ -43,6 +37,16 @@ answer_of job None outer = None
 answer_of job (Some inner) None = side_refusal side.Inner job.inner_key inner
 answer_of job (Some inner) (Some outer) =
     or_next (side_refusal side.Inner job.inner_key inner) (or_next (side_refusal side.Outer job.outer_key outer) (Some status.Done))
+
+-- the text that is due, where the bytes of both inputs are told: that of the join where they decide Done, and else none
+abbrev pub text_after : Option Status → List ℕ → List ℕ
+text_after (Some status.Done) text = text
+text_after refused text = []
+
+unfoldable pub due_text : Job → Option (List ℕ) → Option (List ℕ) → Option (List ℕ)
+due_text job (Some inner) (Some outer) = Some (text_after (answer_of job (Some inner) (Some outer)) (text_of job inner outer))
+due_text job (Some inner) None = None
+due_text job None outer = None
 
 -- the bytes are a table with this key
 abbrev pub IsTable : List ℕ → List ℕ → Type 0
@@ -79,22 +83,26 @@ counts_of opens reads inputs = record { opens = opens inputs; reads = reads inpu
 abbrev pub IsQuiet : Counts → Counts → Side → Type 0
 IsQuiet before now s = (now.opens s ≡ before.opens s) × (now.reads s ≡ before.reads s)
 
+-- no fault was counted, of the inputs and of the sink
+abbrev pub NoneFailed : Counts → Counts → ℕ → ℕ → Type 0
+NoneFailed before now faults faults' = IsQuiet before now side.Inner × IsQuiet before now side.Outer × (faults' ≡ faults)
+
 -- what the counts of faults, of the inputs and then of the sink, show of each answer
 abbrev pub CountsShow : Counts → Counts → ℕ → ℕ → Status → Type 0
-CountsShow before now faults faults' status.Done = IsQuiet before now side.Inner × IsQuiet before now side.Outer × (faults' ≡ faults)
+CountsShow before now faults faults' status.Done = NoneFailed before now faults faults'
 CountsShow before now faults faults' status.Words = ⊥
-CountsShow before now faults faults' (status.OpenFault side.Inner) = Rose (before.opens side.Inner) (now.opens side.Inner) × (faults' ≡ faults)
-CountsShow before now faults faults' (status.ReadFault side.Inner) = Rose (before.reads side.Inner) (now.reads side.Inner) × (faults' ≡ faults)
-CountsShow before now faults faults' (status.TooLong side.Inner) = IsQuiet before now side.Inner × (faults' ≡ faults)
-CountsShow before now faults faults' (status.BadInput side.Inner f) = IsQuiet before now side.Inner × (faults' ≡ faults)
+CountsShow before now faults faults' (status.OpenFault side.Inner) =
+    Rose (before.opens side.Inner) (now.opens side.Inner) × IsQuiet before now side.Outer × (faults' ≡ faults)
+CountsShow before now faults faults' (status.ReadFault side.Inner) =
+    Rose (before.reads side.Inner) (now.reads side.Inner) × IsQuiet before now side.Outer × (faults' ≡ faults)
 CountsShow before now faults faults' (status.OpenFault side.Outer) =
     IsQuiet before now side.Inner × Rose (before.opens side.Outer) (now.opens side.Outer) × (faults' ≡ faults)
 CountsShow before now faults faults' (status.ReadFault side.Outer) =
     IsQuiet before now side.Inner × Rose (before.reads side.Outer) (now.reads side.Outer) × (faults' ≡ faults)
-CountsShow before now faults faults' (status.TooLong side.Outer) = IsQuiet before now side.Inner × IsQuiet before now side.Outer × (faults' ≡ faults)
-CountsShow before now faults faults' (status.BadInput side.Outer f) = IsQuiet before now side.Inner × IsQuiet before now side.Outer × (faults' ≡ faults)
+CountsShow before now faults faults' (status.TooLong s) = NoneFailed before now faults faults'
+CountsShow before now faults faults' (status.BadInput s f) = NoneFailed before now faults faults'
 CountsShow before now faults faults' status.WriteFault = IsQuiet before now side.Inner × IsQuiet before now side.Outer × Rose faults faults'
-CountsShow before now faults faults' status.NoMemory = faults' ≡ faults
+CountsShow before now faults faults' status.NoMemory = NoneFailed before now faults faults'
 
 -- what each answer has left written: all of the text, a proper front of it after a failed write, any front of it after
 -- want of memory, and else nothing
@@ -126,6 +134,30 @@ abbrev pub Decided : Job → Option (List ℕ) → Option (List ℕ) → Counts 
 Decided job inner outer before now faults faults' result =
     IfSome (answer_of job inner outer) (λ s. NoFaultBefore before now faults faults' s → (result ≡ s) ⊎ (result ≡ status.NoMemory))
 
+-- the answer isn't that an open or a read failed
+abbrev pub NoInputFailed : Status → Type 0
+NoInputFailed (status.OpenFault s) = ⊥
+NoInputFailed (status.ReadFault s) = ⊥
+NoInputFailed status.Done = Unit {0}
+NoInputFailed status.Words = Unit {0}
+NoInputFailed (status.TooLong s) = Unit {0}
+NoInputFailed (status.BadInput s f) = Unit {0}
+NoInputFailed status.WriteFault = Unit {0}
+NoInputFailed status.NoMemory = Unit {0}
+
+-- a sink that tells what it has taken, and how many bytes it takes in all, has room for a text
+abbrev pub HasRoom : Option (List ℕ) → Option ℕ → Option (List ℕ) → Type 0
+HasRoom (Some taken) (Some capacity) (Some text) = length taken + length text ≤ capacity
+HasRoom taken capacity text = ⊥
+
+-- what stands of the inputs and the sink before a run in which nothing can fail: no call of the inputs will, both names are
+-- there, and the sink has room for the text that is due
+pub record AllIsThere (is_steady : Type 0) (inner_held outer_held taken : Option (List ℕ)) (capacity : Option ℕ) (text : Option (List ℕ)) : Type 0 where
+  pub steady : is_steady
+  pub inner : IsSome inner_held
+  pub outer : IsSome outer_held
+  pub room : HasRoom taken capacity text
+
 -- the status of a refused input
 abbrev pub refusal_of : Side → LoadFault → Status
 refusal_of s load.Open = status.OpenFault s
@@ -134,7 +166,7 @@ refusal_of s load.TooLong = status.TooLong s
 refusal_of s (load.Bad f) = status.BadInput s f
 refusal_of s load.NoMemory = status.NoMemory
 
--- the text that a list of words asks for, where the bytes of both inputs are told
+-- the text that is due for a list of words
 abbrev pub text_for : Option Job → (List ℕ → Option (List ℕ)) → Option (List ℕ)
 text_for None held = None
-text_for (Some job) held = told_text job (held job.inner) (held job.outer)
+text_for (Some job) held = due_text job (held job.inner) (held job.outer)

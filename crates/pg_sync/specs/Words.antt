@@ -2,6 +2,7 @@
 use Rattle.std.specs.Prelude.{ℕ, Bool, ◌&&◌, not, List, [], ◌∷◌, Option, Some, None, codes, nat_eq, if◌then◌else◌}
 use Rattle.std.specs.List.{starts_with}
 use Rattle.std.specs.Str.{bytes_eq}
+use Rattle.row_model.specs.declared.Plan.{Plan}
 use Rattle.pg_sync.specs.declared.words.JoinWords.{JoinWords}
 use Rattle.pg_sync.specs.declared.words.Command.{Command}
 use Rattle.pg_sync.specs.declared.words.Command.TheVariants as command
@@ -39,3 +40,6 @@ job_in (command.Join job) = job_at job
 
 abbrev pub workers_in : Command → ℕ
 workers_in (command.Join job) = job.plan.workers
+
+abbrev pub plan_in : Command → Plan
+plan_in (command.Join job) = job.plan

@@ -1,10 +1,12 @@
 //! A join from the inputs to the sink.
 
-ghost use Rattle.std.specs.Prelude.{◌≡◌, ◌<◌};
-ghost use Rattle.csv_tables.specs.Appending.{Prints};
+ghost use Rattle.std.specs.Prelude.{◌≡◌, ◌<◌, Err, IsSome};
+ghost use Rattle.csv_tables.specs.declared.PrintFault.TheVariants as fault;
+ghost use Rattle.csv_tables.specs.Appending.{IsFull, Prints};
 ghost use Rattle.csv_tables.specs.Text.{joined_text};
 ghost use Rattle.row_model.specs.declared.Side.TheVariants as side;
-ghost use Rattle.pg_sync.specs.Answer.{BytesShow, CountsShow, Decided, Leaves, counts_of, refusal_of, told_text};
+ghost use Rattle.pg_sync.specs.declared.status.Status.TheVariants as status;
+ghost use Rattle.pg_sync.specs.Answer.{AllIsThere, BytesShow, CountsShow, Decided, Leaves, NoInputFailed, NoneFailed, counts_of, due_text, refusal_of};
 ghost use Rattle.pg_sync.specs.Words.{job_at};
 
 use crate::status::Status;
@@ -47,7 +49,9 @@ fn print_join<R: Threads + Wait + Sync, S: Sink, G: Gate, L: Ledger>(
     requires parts { blank.parts ≡ L.parts }
     requires some { 0 < blank.parts }
     requires workers { plan.workers ≡ 1 }
-    ensures { Prints (S.taken out.old) (S.taken out.new) (S.faults out.old) (S.faults out.new) (joined_text outer.now inner.now) result }
+    ensures prints { Prints (S.taken out.old) (S.taken out.new) (S.faults out.old) (S.faults out.new) (joined_text outer.now inner.now) result }
+    ensures capacity { S.capacity out.new ≡ S.capacity out.old }
+    ensures full { result ≡ Err fault.Write → IsFull (S.taken out.new) (S.capacity out.new) }
 {
     let mut steps = [Steps::<L>::new(blank)];
     match join_rows(rt, alloc, inner, outer, plan, gate, &mut steps) {
@@ -70,7 +74,10 @@ fn join_inputs<R: Threads + Wait + Sync, I: Inputs, S: Sink, G: Gate>(
     requires workers { job.now.plan.workers ≡ 1 }
     ensures bytes { BytesShow (job_at job.now) (I.held inputs.old job.now.inner.now) (I.held inputs.old job.now.outer.now) result }
     ensures counts { CountsShow (counts_of I.open_faults I.read_faults inputs.old) (counts_of I.open_faults I.read_faults inputs.new) (S.faults out.old) (S.faults out.new) result }
-    ensures written { Leaves (S.taken out.old) (S.taken out.new) (told_text (job_at job.now) (I.held inputs.old job.now.inner.now) (I.held inputs.old job.now.outer.now)) result }
+    ensures written { Leaves (S.taken out.old) (S.taken out.new) (due_text (job_at job.now) (I.held inputs.old job.now.inner.now) (I.held inputs.old job.now.outer.now)) result }
+    ensures calm { I.is_steady inputs.old → IsSome (I.held inputs.old job.now.inner.now) → IsSome (I.held inputs.old job.now.outer.now) → NoInputFailed result }
+    ensures capacity { S.capacity out.new ≡ S.capacity out.old }
+    ensures full { result ≡ status.WriteFault → IsFull (S.taken out.new) (S.capacity out.new) }
 {
     let inner = match load(alloc, inputs, Side::Inner, job.inner, job.inner_key) {
         Ok(rows) => rows,
@@ -108,11 +115,14 @@ pub fn run_join<R: Threads + Wait + Sync, I: Inputs, S: Sink, G: Gate>(
     requires inner { I.may_open inputs.old side.Inner job.now.inner.now }
     requires outer { I.may_open inputs.old side.Outer job.now.outer.now }
     requires workers { job.now.plan.workers ≡ 1 }
-    ensures written { Leaves (S.taken out.old) (S.taken out.new) (told_text (job_at job.now) (I.held inputs.old job.now.inner.now) (I.held inputs.old job.now.outer.now)) result }
+    ensures written { Leaves (S.taken out.old) (S.taken out.new) (due_text (job_at job.now) (I.held inputs.old job.now.inner.now) (I.held inputs.old job.now.outer.now)) result }
     ensures bytes { BytesShow (job_at job.now) (I.held inputs.old job.now.inner.now) (I.held inputs.old job.now.outer.now) result }
     ensures counts { CountsShow (counts_of I.open_faults I.read_faults inputs.old) (counts_of I.open_faults I.read_faults inputs.new) (S.faults out.old) (S.faults out.new) result }
     ensures completeness { Decided (job_at job.now) (I.held inputs.old job.now.inner.now) (I.held inputs.old job.now.outer.now)
         (counts_of I.open_faults I.read_faults inputs.old) (counts_of I.open_faults I.read_faults inputs.new) (S.faults out.old) (S.faults out.new) result }
+    ensures faultless { AllIsThere (I.is_steady inputs.old) (I.held inputs.old job.now.inner.now) (I.held inputs.old job.now.outer.now) (S.taken out.old) (S.capacity out.old)
+        (due_text (job_at job.now) (I.held inputs.old job.now.inner.now) (I.held inputs.old job.now.outer.now))
+        → NoneFailed (counts_of I.open_faults I.read_faults inputs.old) (counts_of I.open_faults I.read_faults inputs.new) (S.faults out.old) (S.faults out.new) }
 {
     join_inputs(rt, alloc, job, inputs, out, gate)
 }

@@ -1,6 +1,9 @@
 //! Joins two CSV files by a key, and prints the rows that meet.
 #![tactic(auto)]
 
+ghost use Rattle.std.specs.Prelude.{◌≡◌, [], IfOk};
+ghost use Rattle.csv_tables.specs.Streams.{gathered_of};
+
 mod join;
 mod line;
 mod run;
@@ -39,21 +42,22 @@ fn words_of<R: Env + AllocGlobal>(rt: &R) -> Result<Vec<String>, NoMemory> {
 // takes, so its last write may fail after the join is done.
 fn run_process<R: Threads + Wait + Sync + Env + Files + AllocGlobal, O: Write + Drop, E: Sink>(
     rt: &R,
-    stdout: O,
+    out: &mut StdoutSink<O>,
     err: &mut E,
 ) -> Result<Status, NoMemory>
 where
     R::File: Drop,
+    // Done only where all that the sink took was handed on to standard output.
+    ensures handed_on { IfOk result (λ status. status ≡ Status.Done → gathered_of out.new ≡ []) }
 {
     let words = words_of(rt)?;
     let mut inputs = FileInputs::new(rt);
-    let mut out = StdoutSink::new(rt.alloc(), stdout)?;
     let status = run(
         rt,
         rt.alloc(),
         words.as_slice(),
         &mut inputs,
-        &mut out,
+        out,
         err,
         &OpenGate,
     );
@@ -65,7 +69,11 @@ where
 
 fn main(rt: HostRuntime) -> ExitCode {
     let mut err = StderrSink::new(rt.stderr());
-    let status = match run_process(&rt, rt.stdout(), &mut err) {
+    let ended = match StdoutSink::new(rt.alloc(), rt.stdout()) {
+        Ok(mut out) => run_process(&rt, &mut out, &mut err),
+        Err(NoMemory) => Err(NoMemory),
+    };
+    let status = match ended {
         Ok(status) => status,
         Err(NoMemory) => write_line(Status::NoMemory, &mut err),
     };

@@ -2,7 +2,7 @@
 
 ghost use Rattle.std.specs.Prelude.{◌≡◌, ◌↔◌, map, string_bytes, None, IfSome};
 ghost use Rattle.row_model.specs.declared.Side.TheVariants as side;
-ghost use Rattle.pg_sync.specs.Answer.{BytesShow, CountsShow, Decided, Leaves, counts_of, text_for};
+ghost use Rattle.pg_sync.specs.Answer.{AllIsThere, BytesShow, CountsShow, Decided, Leaves, NoneFailed, counts_of, due_text, text_for};
 ghost use Rattle.pg_sync.specs.Line.{TakesLine, line_of};
 ghost use Rattle.pg_sync.specs.Words.{command_of};
 
@@ -47,6 +47,12 @@ pub fn run<R: Threads + Wait + Sync, I: Inputs, S: Sink, E: Sink, G: Gate>(
     // Where no fault comes before it, a join answers what the bytes decide, or memory ran out.
     ensures completeness { IfSome (command_of (map string_bytes words.now)) (λ job. Decided job (I.held inputs.old job.inner) (I.held inputs.old job.outer)
         (counts_of I.open_faults I.read_faults inputs.old) (counts_of I.open_faults I.read_faults inputs.new) (S.faults out.old) (S.faults out.new) result) }
+
+    // Where no call of the inputs will fail, both names are there and the sink has room for the
+    // text that is due, no fault rises.
+    ensures faultless { IfSome (command_of (map string_bytes words.now)) (λ job. AllIsThere (I.is_steady inputs.old) (I.held inputs.old job.inner) (I.held inputs.old job.outer)
+        (S.taken out.old) (S.capacity out.old) (due_text job (I.held inputs.old job.inner) (I.held inputs.old job.outer))
+        → NoneFailed (counts_of I.open_faults I.read_faults inputs.old) (counts_of I.open_faults I.read_faults inputs.new) (S.faults out.old) (S.faults out.new)) }
 
     // The line of the answer, or a proper front of it where a write of it failed.
     ensures err_line { TakesLine (E.taken err.old) (E.taken err.new) (E.faults err.old) (E.faults err.new) (line_of result) }

@@ -1,6 +1,9 @@
 //! Whole runs over inputs and sinks in memory: worked examples, each refusal with its line, and
 //! faults in mid-stream.
 
+ghost use Rattle.std.specs.Prelude.{◌<◌};
+
+use crate::line::write_line;
 use crate::run::run;
 use crate::status::Status;
 use csv_tables::{MemInputs, MemSink};
@@ -16,6 +19,9 @@ const PEOPLE: &str = "id,name\n1,Ann\n2,Bob\n";
 
 const ORDERS: &str = "oid,id\n10,2\n11,1\n12,3\n";
 
+// The orders joined to the people.
+const JOINED: &str = "oid,id,id,name\n10,2,2,Bob\n11,1,1,Ann\n";
+
 // How a run ended: its status, and what it wrote to the two sinks.
 #[derive(Drop)]
 struct Ended {
@@ -24,15 +30,18 @@ struct Ended {
     err: MemSink,
 }
 
-// Which calls fail: opens and reads together, writes of the text, and writes of the line.
+// The most bytes of a read, and which calls fail: opens and reads together, writes of the text, and
+// writes of the line.
 #[derive(Clone, Copy)]
-struct Failing {
+struct Setup {
+    piece: usize,
     input: Option<u64>,
     out: Option<u64>,
     err: Option<u64>,
 }
 
-const NOTHING: Failing = Failing {
+const CALM: Setup = Setup {
+    piece: 1000,
     input: None,
     out: None,
     err: None,
@@ -67,15 +76,17 @@ fn run_words<R: Threads + Wait + Sync + AllocGlobal>(
     words: &[&str],
     inner: &[u8],
     outer: &[u8],
-    failing: Failing,
-) -> Result<Ended, NoMemory> {
+    setup: Setup,
+) -> Result<Ended, NoMemory>
+    requires { 0 < setup.piece }
+{
     let alloc = rt.alloc();
     let mut files = Vec::new(alloc);
     files.push(file(alloc, "i", inner)?)?;
     files.push(file(alloc, "o", outer)?)?;
-    let mut inputs = MemInputs::new(files, listed(alloc, failing.input)?, 1000);
-    let mut out = MemSink::new(alloc, listed(alloc, failing.out)?, 5, 10_000)?;
-    let mut err = MemSink::new(alloc, listed(alloc, failing.err)?, 100, 100)?;
+    let mut inputs = MemInputs::new(files, listed(alloc, setup.input)?, setup.piece);
+    let mut out = MemSink::new(alloc, listed(alloc, setup.out)?, 5, 10_000)?;
+    let mut err = MemSink::new(alloc, listed(alloc, setup.err)?, 100, 100)?;
     let words = owned(alloc, words)?;
     let status = run(
         rt,
@@ -95,8 +106,10 @@ fn join<R: Threads + Wait + Sync + AllocGlobal>(
     keys: (&str, &str),
     inner: &[u8],
     outer: &[u8],
-    failing: Failing,
-) -> Result<Ended, NoMemory> {
+    setup: Setup,
+) -> Result<Ended, NoMemory>
+    requires { 0 < setup.piece }
+{
     let words = [
         "join",
         "i",
@@ -108,19 +121,25 @@ fn join<R: Threads + Wait + Sync + AllocGlobal>(
         "--workers",
         "1",
     ];
-    run_words(rt, &words, inner, outer, failing)
+    run_words(rt, &words, inner, outer, setup)
+}
+
+// Joins the orders to these people by their key.
+fn join_orders<R: Threads + Wait + Sync + AllocGlobal>(
+    rt: &R,
+    people: &[u8],
+    setup: Setup,
+) -> Result<Ended, NoMemory>
+    requires { 0 < setup.piece }
+{
+    join(rt, ("id", "id"), people, ORDERS.as_bytes(), setup)
 }
 
 #[test]
 fn texts_of_small_joins(rt: HostRuntime) {
     // key, inner, outer, text
     let cases = [
-        (
-            "id",
-            PEOPLE,
-            ORDERS,
-            "oid,id,id,name\n10,2,2,Bob\n11,1,1,Ann\n",
-        ),
+        ("id", PEOPLE, ORDERS, JOINED),
         ("id", "id,name\n", ORDERS, "oid,id,id,name\n"),
         ("k", "k\na\na\n", "k\na\na\n", "k,k\na,a\na,a\na,a\na,a\n"),
         ("k", "k,v\n,1\na,2\n", "k,w\n,3\n", "k,w,k,v\n"),
@@ -144,7 +163,7 @@ fn texts_of_small_joins(rt: HostRuntime) {
         ),
     ];
     for (key, inner, outer, text) in cases {
-        let ended = join(&rt, (key, key), inner.as_bytes(), outer.as_bytes(), NOTHING);
+        let ended = join(&rt, (key, key), inner.as_bytes(), outer.as_bytes(), CALM);
         let ended = ended.expect(&rt, "memory");
         assert_eq!(rt; ended.status, Status::Done, "of {text}");
         assert_eq!(rt; ended.out.taken(), text.as_bytes());
@@ -202,7 +221,7 @@ fn refusals_and_their_lines(rt: HostRuntime) {
         ),
     ];
     for (key, inner, outer, status, line) in cases {
-        let ended = join(&rt, (key, key), inner.as_bytes(), outer.as_bytes(), NOTHING);
+        let ended = join(&rt, (key, key), inner.as_bytes(), outer.as_bytes(), CALM);
         let ended = ended.expect(&rt, "memory");
         assert_eq!(rt; ended.status, status);
         assert_eq!(rt; ended.err.taken(), line.as_bytes());
@@ -250,7 +269,7 @@ fn words_that_name_no_command(rt: HostRuntime) {
         ],
     ];
     for words in cases {
-        let ended = run_words(&rt, words, PEOPLE.as_bytes(), ORDERS.as_bytes(), NOTHING);
+        let ended = run_words(&rt, words, PEOPLE.as_bytes(), ORDERS.as_bytes(), CALM);
         let ended = ended.expect(&rt, "memory");
         assert_eq!(rt; ended.status, Status::Words);
         assert_eq!(rt; ended.err.taken(), b"pg_sync: wrong words\n".as_slice());
@@ -267,83 +286,119 @@ fn an_input_has_4096_bytes_at_most(rt: HostRuntime) -> Result<(), Fail> {
     ];
     for (size, status) in cases {
         let inner = vec![in alloc; b'x'; size]?;
-        let ended = join(&rt, ("id", "id"), inner.as_slice(), b"", NOTHING);
+        let ended = join(&rt, ("id", "id"), inner.as_slice(), b"", CALM);
         assert_eq!(rt; ended.expect(&rt, "memory").status, status);
     }
     Ok(())
 }
 
 #[test]
-fn faults_in_mid_stream(rt: HostRuntime) {
-    // The fifth call is the first read of the outer input.
-    let cases = [
-        (
-            Failing {
-                input: Some(1),
-                ..NOTHING
-            },
-            Status::OpenFault(Side::Inner),
-            "",
-            "pg_sync: cannot open inner input\n",
-        ),
-        (
-            Failing {
-                input: Some(2),
-                ..NOTHING
-            },
-            Status::ReadFault(Side::Inner),
-            "",
-            "pg_sync: cannot read inner input\n",
-        ),
-        (
-            Failing {
-                input: Some(4),
-                ..NOTHING
-            },
-            Status::OpenFault(Side::Outer),
-            "",
-            "pg_sync: cannot open outer input\n",
-        ),
-        (
-            Failing {
-                input: Some(5),
-                ..NOTHING
-            },
-            Status::ReadFault(Side::Outer),
-            "",
-            "pg_sync: cannot read outer input\n",
-        ),
-        (
-            Failing {
-                out: Some(2),
-                ..NOTHING
-            },
-            Status::WriteFault,
-            "oid,i",
-            "pg_sync: cannot write\n",
-        ),
-        (
-            Failing {
-                input: Some(1),
-                out: None,
-                err: Some(1),
-            },
-            Status::OpenFault(Side::Inner),
-            "",
-            "",
-        ),
-    ];
-    for (failing, status, text, line) in cases {
-        let ended = join(
-            &rt,
-            ("id", "id"),
-            PEOPLE.as_bytes(),
-            ORDERS.as_bytes(),
-            failing,
-        );
-        let ended = ended.expect(&rt, "memory");
-        assert_eq!(rt; ended.status, status);
-        assert_eq!(rt; ended.out.taken(), text.as_bytes());
+fn each_failing_call_of_the_inputs(rt: HostRuntime) {
+    // By pieces of 7 bytes the inner input is opened by call 1 and read by 2 to 5, the outer one
+    // opened by call 6 and read by 7 to 11.
+    for call in 1..13 {
+        let (status, line) = match call {
+            1 => (
+                Status::OpenFault(Side::Inner),
+                "pg_sync: cannot open inner input\n",
+            ),
+            2..=5 => (
+                Status::ReadFault(Side::Inner),
+                "pg_sync: cannot read inner input\n",
+            ),
+            6 => (
+                Status::OpenFault(Side::Outer),
+                "pg_sync: cannot open outer input\n",
+            ),
+            7..=11 => (
+                Status::ReadFault(Side::Outer),
+                "pg_sync: cannot read outer input\n",
+            ),
+            _ => (Status::Done, ""),
+        };
+        let setup = Setup {
+            piece: 7,
+            input: Some(call),
+            ..CALM
+        };
+        let ended = join_orders(&rt, PEOPLE.as_bytes(), setup).expect(&rt, "memory");
+        assert_eq!(rt; ended.status, status, "at call {call}");
+        assert_eq!(rt; ended.err.taken(), line.as_bytes());
+        assert_eq!(rt; ended.out.taken().is_empty(), call < 12);
+    }
+}
+
+#[test]
+fn each_failing_write(rt: HostRuntime) {
+    // By pieces of 5 bytes the header takes three writes, and so does each of the two rows.
+    let fronts = [0, 5, 10, 15, 20, 25, 26, 31, 36, 37];
+    for (i, front) in fronts.iter().enumerate() {
+        let setup = Setup {
+            out: Some(i as u64 + 1),
+            ..CALM
+        };
+        let ended = join_orders(&rt, PEOPLE.as_bytes(), setup).expect(&rt, "memory");
+        let (status, line) = match *front {
+            37 => (Status::Done, ""),
+            _ => (Status::WriteFault, "pg_sync: cannot write\n"),
+        };
+        assert_eq!(rt; ended.status, status, "at write {i}");
+        assert_eq!(rt; ended.out.taken(), &JOINED.as_bytes()[..*front]);
         assert_eq!(rt; ended.err.taken(), line.as_bytes());
     }
+}
+
+#[test]
+fn inner_input_cut_short(rt: HostRuntime) {
+    for length in 0..PEOPLE.len() {
+        let status = match length {
+            0 => Status::BadInput(Side::Inner, RowFault::NoHeader),
+            1 => Status::BadInput(Side::Inner, RowFault::NoKey),
+            9 => Status::BadInput(Side::Inner, RowFault::Ragged { number: 2 }),
+            15 => Status::BadInput(Side::Inner, RowFault::Ragged { number: 3 }),
+            _ => Status::Done,
+        };
+        let ended = join_orders(&rt, &PEOPLE.as_bytes()[..length], CALM);
+        assert_eq!(rt;
+            ended.expect(&rt, "memory").status,
+            status,
+            "of {length} bytes"
+        );
+    }
+}
+
+#[test]
+fn a_failed_line_changes_no_status(rt: HostRuntime) {
+    let setup = Setup {
+        err: Some(1),
+        ..CALM
+    };
+    let ended = join_orders(&rt, b"", setup).expect(&rt, "memory");
+    assert_eq!(rt;
+        ended.status,
+        Status::BadInput(Side::Inner, RowFault::NoHeader)
+    );
+    assert!(rt; ended.err.taken().is_empty());
+}
+
+#[test]
+fn lines_that_no_small_input_shows(rt: HostRuntime) -> Result<(), Fail> {
+    let cases = [
+        (
+            Status::TooLong(Side::Inner),
+            "pg_sync: inner input is too long\n",
+        ),
+        (
+            Status::TooLong(Side::Outer),
+            "pg_sync: outer input is too long\n",
+        ),
+        (Status::NoMemory, "pg_sync: out of memory\n"),
+    ];
+    for (status, line) in cases {
+        let alloc = rt.alloc();
+        let mut err = MemSink::new(alloc, Vec::new(alloc), 100, 100)?;
+        assert_eq!(rt; write_line(status, &mut err), status);
+        assert_eq!(rt; err.taken(), line.as_bytes());
+    }
+    Ok(())
 }

@@ -1,7 +1,7 @@
 //! The words of a command.
 
 ghost use Rattle.std.specs.Prelude.{◌≡◌, map, option_map, string_bytes, IfSome};
-ghost use Rattle.pg_sync.specs.Words.{is_input, is_join, job_in, command_of, workers_in};
+ghost use Rattle.pg_sync.specs.Words.{is_input, is_join, job_in, command_of, plan_in, workers_in};
 
 use row_model::Plan;
 
@@ -53,6 +53,7 @@ fn is_join(
 pub fn read_words<'w>(words: &'w [String]) -> Option<Command<'w>>
     ensures command { option_map job_in result ≡ command_of (map string_bytes words.now) }
     ensures workers { IfSome result (λ c. workers_in c ≡ 1) }
+    ensures plan { IfSome result (λ c. plan_in c ≡ record { workers = 1; buckets = 1024; mem = 65536 }) }
 {
     if words.len() != 9 {
         return None;

@@ -5,14 +5,14 @@ use Rattle.csv_tables.specs.Text.{pair_text}
 use Rattle.csv_tables.proofs.SinkFacts.{appends-more, flat_map-more, front_after, prints_cut, flat_map-halves, flat_map-split}
 use Rattle.csv_tables.proofs.printing.print_pairs.Goals as goal
 
-pub returns-in_err-writer : goal.returns-in_err-writer
-returns-in_err-writer g c =
+pub returns-in_err-writer-clause-prints : goal.returns-in_err-writer-clause-prints
+returns-in_err-writer-clause-prints g c =
     let p = err_from_is_err_and c.from_residual.result c.from_residual.ensures.1 in
     let text = pair_text c.args.outer.now c.args.inner.now in
     rw (p.1, p.2, flat_map-halves text c.args.pairs.now c.pairs.pair-index) (front_after _ _ _ _ c.pairs.invariant.taken, c.pairs.invariant.faults)
 
-pub returns-in_err-print_row : goal.returns-in_err-print_row
-returns-in_err-print_row g c =
+pub returns-in_err-print_row-clause-prints : goal.returns-in_err-print_row-clause-prints
+returns-in_err-print_row-clause-prints g c =
     let p = err_from_is_err_and c.from_residual-in_err-print_row.result c.from_residual-in_err-print_row.ensures.1 in
     let text = pair_text c.args.outer.now c.args.inner.now in
     let i = c.pairs.pair-index in
@@ -30,4 +30,5 @@ pairs-preserved g c =
       at_row = c.in_ok-print_row.ensures.at_row;
       taken = appends-more _ _ _ _ _ _ c.pairs.invariant.taken c.in_ok-print_row.ensures.prints.0 (flat_map-more text c.args.pairs.now c.pairs.pair-index none lt);
       faults = c.in_ok-print_row.ensures.prints.1 ∙ c.pairs.invariant.faults;
+      capacity = c.in_ok-print_row.ensures.capacity ∙ c.pairs.invariant.capacity;
     }

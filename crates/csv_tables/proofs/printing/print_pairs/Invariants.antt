@@ -10,4 +10,5 @@ invariant-pairs g l = record {
   at_row : IsAtRow l.writer;
   taken : Appends (g.S.Sink.taken l.fn.out) (g.S.Sink.taken l.out) (flat_map (pair_text l.outer l.inner) (take l.pair-index l.pairs));
   faults : g.S.Sink.faults l.out ≡ g.S.Sink.faults l.fn.out;
+  capacity : g.S.Sink.capacity l.out ≡ g.S.Sink.capacity l.fn.out;
 }
