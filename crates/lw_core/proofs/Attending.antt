@@ -7,7 +7,7 @@ use Rattle.proc_table.specs.declared.Mode.TheVariants as mode
 use Rattle.lw_core.specs.declared.step.Call.{Call}
 use Rattle.lw_core.specs.declared.step.Call.TheVariants as call
 use Rattle.lw_core.specs.declared.view.Frame.{Frame}
-use Rattle.lw_core.specs.declared.view.Frame.TheVariants.{Attempting, Trying, Unqueued, Queued, TakingList, Spinning, Queueing, Flagging, Announcing, Appending, Dequeueing, Checking, Removing, Withdrawing, Answering, Looking, Asleep, Downing, Sleeping, Woken, GivingBack, Waking, Marking, Detaching, Clearing, Posting, Peeking, Comparing, Reading, Returning, VarUnqueued, Allowing, VarQueued, Storing, Publishing, Calling, Unhanding, Releasing}
+use Rattle.lw_core.specs.declared.view.Frame.TheVariants.{Attempting, Trying, Unqueued, Queued, TakingList, Spinning, Queueing, Flagging, Announcing, Appending, Dequeueing, Checking, Removing, Withdrawing, Answering, Looking, Asleep, Downing, Sleeping, Woken, GivingBack, Waking, Marking, Detaching, Clearing, Posting, Peeking, Comparing, Reading, Returning, VarUnqueued, Allowing, VarQueued, VarLeaving, Storing, Publishing, Calling, Unhanding, Releasing}
 use Rattle.lw_core.specs.declared.view.Hold.{Hold}
 use Rattle.lw_core.specs.declared.view.View.{View}
 use Rattle.lw_core.specs.declared.view.Want.{Want}
@@ -15,7 +15,7 @@ use Rattle.lw_core.specs.declared.view.Want.TheVariants as want
 use Rattle.lw_core.specs.declared.view.Waiter.{Waiter}
 use Rattle.lw_core.specs.Words.{is_free, locked, has_flag}
 use Rattle.lw_core.specs.WaitLists.{taken_from}
-use Rattle.lw_core.specs.Machine.{Place, number_of, not_held, resumed, on_grant, on_refusal, loaded, peeked, let_go, calls_for_wake, in_hand, flagged, sent_home, stored, reread, telling, detached, posted, looked, answered, surplus_posted, MayLoad, MayTake, MaySendHome, MayFlag, MayStore, MayReread, MayDetach, Owes, MayLook, MayAnswer, outer, on_outcome, on_conflict, taking, releasing, compared, published, MayPeek, BeginsTaking, MayReadVar, MayStoreVar, BeginsRelease}
+use Rattle.lw_core.specs.Machine.{Place, number_of, not_held, resumed, on_grant, on_refusal, loaded, peeked, let_go, after_store, calls_for_wake, in_hand, flagged, sent_home, stored, reread, telling, detached, posted, looked, answered, surplus_posted, MayLoad, MayTake, MaySendHome, MayFlag, MayStore, MayReread, MayDetach, Owes, MayLook, MayAnswer, outer, on_outcome, on_conflict, taking, releasing, compared, published, MayPeek, BeginsTaking, MayReadVar, MayStoreVar, BeginsRelease}
 use Rattle.lw_core.specs.SeatFits.{IsFreeOf, HoldsAs, FollowsAttempt, FollowsLeaving, FollowsSleep, FollowsDown, FollowsTaking, PlaceFits}
 use Rattle.lw_core.specs.Stances.{Entry, entry_of, sleep_entry, queued_at, announced_at, due_of, due_at}
 use Rattle.lw_core.specs.FreeLockIsAnswered.{attends_at, lock_in, committed_at}
@@ -65,9 +65,10 @@ module _ (l : ℕ) where
       by_surplus true = ap committed_at e
       by_surplus false = refl
 
-  left_awake : (s : ℕ) (p : Place) → FollowsLeaving p → committed_at (resumed s p) ≡ None
-  left_awake s (GivingBack ∷ p) e = resumed_awake s p e
-  left_awake s p e = absurd e
+  left_awake : (s : ℕ) (w : Want) (p : Place) → FollowsLeaving w p → committed_at (resumed s p) ≡ None
+  left_awake s w (GivingBack ∷ p) e = resumed_awake s p e
+  left_awake s w (VarLeaving old c ∷ p) e = resumed_awake s p e.1
+  left_awake s w p e = absurd e
 
   told_awake : (us : List Waiter) (p : Place) → p ≡ [] → committed_at (telling us p) ≡ None
   told_awake [] p e = ap committed_at e
@@ -83,22 +84,26 @@ module _ (l : ℕ) where
     where
       by_word : (b : Bool) (q : Place) → FollowsTaking holds j s q → Goes l (Spinning j ∷ q) (cond b (TakingList j ∷ q) (Spinning j ∷ q))
       by_word true (Queueing i w ∷ q) fits = wanders _ _ refl refl (undue l None)
-      by_word true (Dequeueing i w ∷ q) fits = wanders _ _ refl refl (undue l (entry_of i w))
-      by_word true (Waking i ∷ q) fits = goes_on _ _ refl (λ is. absurd (cc)) (undue l None)
+      by_word true (Dequeueing i w ∷ GivingBack ∷ q) fits = wanders _ _ refl refl (undue l (entry_of i w))
+      by_word true (Dequeueing i w ∷ VarLeaving old c ∷ q) fits = goes_on _ _ refl (λ is. is) (undue l (entry_of i w))
+      by_word true (Dequeueing i w ∷ q) fits = absurd fits.2
+      by_word true (Waking i updated ∷ q) fits = goes_on _ _ refl (λ is. absurd (cc)) (undue l None)
       by_word true (Comparing i old ∷ VarUnqueued a older ∷ q) fits = wanders _ _ refl refl (undue l None)
       by_word true (Comparing i old ∷ VarQueued a older ∷ q) fits = goes_on _ _ refl (λ is. is) (undue l (entry_of a want.UntilFree))
       by_word true (Comparing i old ∷ q) fits = absurd fits.2
       by_word true (Storing i x releases ∷ q) fits = wanders _ _ refl refl (undue l None)
       by_word true q fits = absurd fits
       by_word false (Queueing i w ∷ q) fits = wanders _ _ refl refl (undue l None)
-      by_word false (Dequeueing i w ∷ q) fits = wanders _ _ refl refl (undue l (entry_of i w))
-      by_word false (Waking i ∷ q) fits = goes_on _ _ refl (λ is. absurd (cc)) (undue l None)
+      by_word false (Dequeueing i w ∷ GivingBack ∷ q) fits = wanders _ _ refl refl (undue l (entry_of i w))
+      by_word false (Dequeueing i w ∷ VarLeaving old c ∷ q) fits = goes_on _ _ refl (λ is. is) (undue l (entry_of i w))
+      by_word false (Dequeueing i w ∷ q) fits = absurd fits.2
+      by_word false (Waking i updated ∷ q) fits = goes_on _ _ refl (λ is. absurd (cc)) (undue l None)
       by_word false (Comparing i old ∷ VarUnqueued a older ∷ q) fits = wanders _ _ refl refl (undue l None)
       by_word false (Comparing i old ∷ VarQueued a older ∷ q) fits = goes_on _ _ refl (λ is. is) (undue l (entry_of a want.UntilFree))
       by_word false (Comparing i old ∷ q) fits = absurd fits.2
       by_word false (Storing i x releases ∷ q) fits = wanders _ _ refl refl (undue l None)
       by_word false q fits = absurd fits
-  loaded_goes holds s k n (Marking j found marked [] ∷ p) ok fits = goes_on _ _ refl (λ is. absurd (cc)) (undue l None)
+  loaded_goes holds s k n (Marking j updated found marked [] ∷ p) ok fits = goes_on _ _ refl (λ is. absurd (cc)) (undue l None)
   loaded_goes holds s k n p ok fits = absurd ok
 
   -- an attempt on another lock is granted or refused; and one on any is tried again
@@ -124,16 +129,16 @@ module _ (l : ℕ) where
   retried_goes k w n s m p e = absurd e
 
   -- a release
-  let_go_awake : (k word : ℕ) (p : Place) → p ≡ [] → committed_at (let_go k word p) ≡ None
-  let_go_awake k word p e = by_call (calls_for_wake word)
+  let_go_awake : (o : Option Call) (k word : ℕ) (p : Place) → p ≡ [] → committed_at (let_go o k word p) ≡ None
+  let_go_awake o k word p e = by_call (calls_for_wake word)
     where
-      by_call : (b : Bool) → committed_at (cond b (TakingList k ∷ Waking k ∷ p) p) ≡ None
+      by_call : (b : Bool) → committed_at (cond b (TakingList k ∷ Waking k (after_store o) ∷ p) p) ≡ None
       by_call true = refl
       by_call false = ap committed_at e
 
-  pub let_go_goes : (b : Option Call) (k word : ℕ) (v : View) → releasing b v.place ≡ [] → BeginsRelease k b v → Goes l v.place (let_go k word (releasing b v.place))
-  let_go_goes (Some c) k word v none ok = begun_goes v.place (let_go k word v.place) none (let_go_awake k word v.place none)
-  let_go_goes None k word v none ok = subst (λ (p : Place). Goes l p (let_go k word (outer v.place))) (sym (top_is v.place (Releasing k) ok)) (wanders _ _ refl (let_go_awake k word (outer v.place) none) (undue l None))
+  pub let_go_goes : (b : Option Call) (k word : ℕ) (v : View) → releasing b v.place ≡ [] → BeginsRelease k b v → Goes l v.place (let_go b k word (releasing b v.place))
+  let_go_goes (Some c) k word v none ok = begun_goes v.place (let_go (Some c) k word v.place) none (let_go_awake (Some c) k word v.place none)
+  let_go_goes None k word v none ok = subst (λ (p : Place). Goes l p (let_go None k word (outer v.place))) (sym (top_is v.place (Releasing k) ok)) (wanders _ _ refl (let_go_awake None k word (outer v.place) none) (undue l None))
 
   -- a look at a lock in a wait for its variable, which begins with it; and one that goes on, on another lock where it finds an exclusive holder
   pub peeked_goes : (s k old n : ℕ) (p : Place) → p ≡ [] → Goes l p (peeked (Some (call.WaitForVar k old)) s n p)
@@ -151,7 +156,7 @@ module _ (l : ℕ) where
       by_word false = wanders _ _ refl refl (undue l None)
   looked_on_goes holds s k n (Peeking j old ∷ VarQueued i older ∷ p) ok fits ne = by_word (is_free mode.Shared n) refl
     where
-      by_word : (b : Bool) → is_free mode.Shared n ≡ b → Goes l (Peeking j old ∷ VarQueued i older ∷ p) (cond b (TakingList i ∷ Dequeueing i want.UntilFree ∷ GivingBack ∷ p) (TakingList j ∷ Comparing j old ∷ VarQueued i older ∷ p))
+      by_word : (b : Bool) → is_free mode.Shared n ≡ b → Goes l (Peeking j old ∷ VarQueued i older ∷ p) (cond b (TakingList i ∷ Dequeueing i want.UntilFree ∷ VarLeaving older false ∷ p) (TakingList j ∷ Comparing j old ∷ VarQueued i older ∷ p))
       by_word true e = wanders _ _ refl refl (undue l (entry_of i want.UntilFree))
       by_word false e = passes (λ is. absurd (cc)) (λ is. absurd (ne e (sym ok ∙ (sym fits.1.0 ∙ ap number_of is)))) (undue l (entry_of i want.UntilFree))
   looked_on_goes holds s k n (Peeking j old ∷ p) ok fits ne = absurd fits.1
@@ -176,10 +181,12 @@ module _ (l : ℕ) where
   pub taken_goes : (holds : List Hold) (s k : ℕ) (found : List Waiter) (f : Frame) (p : Place) → MayTake k (f ∷ p) → PlaceFits holds s (f ∷ p) → (b : Bool) → Goes l (f ∷ p) (cond b (in_hand found p) (Spinning k ∷ p))
   taken_goes holds s k found (TakingList j) (Queueing i w ∷ p) ok fits true = wanders _ _ refl refl (undue l None)
   taken_goes holds s k found (TakingList j) (Queueing i w ∷ p) ok fits false = wanders _ _ refl refl (undue l None)
-  taken_goes holds s k found (TakingList j) (Dequeueing i w ∷ p) ok fits true = wanders _ _ refl refl (undue l (entry_of i w))
-  taken_goes holds s k found (TakingList j) (Dequeueing i w ∷ p) ok fits false = wanders _ _ refl refl (undue l (entry_of i w))
-  taken_goes holds s k found (TakingList j) (Waking i ∷ p) ok fits true = goes_on _ _ refl (λ is. absurd (cc)) (undue l None)
-  taken_goes holds s k found (TakingList j) (Waking i ∷ p) ok fits false = goes_on _ _ refl (λ is. absurd (cc)) (undue l None)
+  taken_goes holds s k found (TakingList j) (Dequeueing i w ∷ GivingBack ∷ p) ok fits true = wanders _ _ refl refl (undue l (entry_of i w))
+  taken_goes holds s k found (TakingList j) (Dequeueing i w ∷ VarLeaving old c ∷ p) ok fits true = goes_on _ _ refl (λ is. is) (undue l (entry_of i w))
+  taken_goes holds s k found (TakingList j) (Dequeueing i w ∷ GivingBack ∷ p) ok fits false = wanders _ _ refl refl (undue l (entry_of i w))
+  taken_goes holds s k found (TakingList j) (Dequeueing i w ∷ VarLeaving old c ∷ p) ok fits false = goes_on _ _ refl (λ is. is) (undue l (entry_of i w))
+  taken_goes holds s k found (TakingList j) (Waking i updated ∷ p) ok fits true = goes_on _ _ refl (λ is. absurd (cc)) (undue l None)
+  taken_goes holds s k found (TakingList j) (Waking i updated ∷ p) ok fits false = goes_on _ _ refl (λ is. absurd (cc)) (undue l None)
   taken_goes holds s k found (TakingList j) (Comparing i old ∷ VarUnqueued a older ∷ p) ok fits true = wanders _ _ refl refl (undue l None)
   taken_goes holds s k found (TakingList j) (Comparing i old ∷ VarQueued a older ∷ p) ok fits true = goes_on _ _ refl (λ is. is) (undue l (entry_of a want.UntilFree))
   taken_goes holds s k found (TakingList j) (Storing i x releases ∷ p) ok fits true = wanders _ _ refl refl (undue l None)
@@ -187,14 +194,15 @@ module _ (l : ℕ) where
   taken_goes holds s k found (TakingList j) (Comparing i old ∷ VarQueued a older ∷ p) ok fits false = goes_on _ _ refl (λ is. is) (undue l (entry_of a want.UntilFree))
   taken_goes holds s k found (TakingList j) (Storing i x releases ∷ p) ok fits false = wanders _ _ refl refl (undue l None)
   taken_goes holds s k found (TakingList j) (Comparing i old ∷ p) ok fits b = absurd fits.2
+  taken_goes holds s k found (TakingList j) (Dequeueing i w ∷ p) ok fits b = absurd fits.2
   taken_goes holds s k found f p ok fits b = absurd ok
 
   -- where a call begins by taking the list
-  pub taking_goes : (b : Option Call) (k : ℕ) (v : View) (q : Place) → BeginsTaking k b v → Goes l (taking b v.place) q → Goes l v.place q
-  taking_goes (Some (call.UpdateVar j x)) k v q ok goes = from_idle v.place ok.1 (TakingList j ∷ Storing j x false ∷ v.place) q refl refl goes
-  taking_goes (Some (call.ReleaseClearVar j x)) k v q ok goes = from_idle v.place ok.1 (TakingList j ∷ Storing j x true ∷ v.place) q refl refl goes
-  taking_goes (Some c) k v q ok goes = absurd ok
-  taking_goes None k v q ok goes = goes
+  pub taking_goes : (lawful : List ℕ → Type 0) (b : Option Call) (k : ℕ) (v : View) (q : Place) → BeginsTaking lawful k b v → Goes l (taking b v.place) q → Goes l v.place q
+  taking_goes lawful (Some (call.UpdateVar j x)) k v q ok goes = from_idle v.place ok.1 (TakingList j ∷ Storing j x false ∷ v.place) q refl refl goes
+  taking_goes lawful (Some (call.ReleaseClearVar j x)) k v q ok goes = from_idle v.place ok.1 (TakingList j ∷ Storing j x true ∷ v.place) q refl refl goes
+  taking_goes lawful (Some c) k v q ok goes = absurd ok
+  taking_goes lawful None k v q ok goes = goes
 
   pub sent_goes : (holds : List Hold) (s k own : ℕ) (clears : Bool) (p : Place) → MaySendHome k clears own p → PlaceFits holds s p → Goes l p (sent_home s p)
   sent_goes holds s k own clears (Appending j w found ∷ Attempting a m ∷ Queued b n u ∷ p) ok fits = wanders _ _ refl refl (undue l None)
@@ -209,9 +217,9 @@ module _ (l : ℕ) where
       by_value false = wanders _ _ refl (resumed_awake s p fits.1.2) (undue l None)
   sent_goes holds s k own clears (Returning j old found n ∷ VarQueued i older ∷ p) ok fits = by_value (eqb n old)
     where
-      by_value : (b : Bool) → Goes l (Returning j old found n ∷ VarQueued i older ∷ p) (cond b (on_conflict (VarQueued i older ∷ p)) (on_outcome s (VarQueued i older ∷ p)))
+      by_value : (b : Bool) → Goes l (Returning j old found n ∷ VarQueued i older ∷ p) (cond b (on_conflict (VarQueued i older ∷ p)) (on_outcome true s (VarQueued i older ∷ p)))
       by_value true = goes_on _ _ refl (λ is. is) (undue l (entry_of i want.UntilFree))
-      by_value false = wanders _ _ refl refl (undue l (entry_of i want.UntilFree))
+      by_value false = goes_on _ _ refl (λ is. is) (undue l (entry_of i want.UntilFree))
   sent_goes holds s k own clears (Returning j old found n ∷ p) ok fits = absurd fits.1
   sent_goes holds s k own clears (Calling j found marked [] ∷ p) ok fits = wanders _ _ refl (told_awake marked p fits.3) (undue l None)
   sent_goes holds s k own clears (Unhanding j found ∷ p) ok fits = wanders _ _ refl refl (undue l None)
@@ -223,14 +231,16 @@ module _ (l : ℕ) where
 
   pub stored_goes : (holds : List Hold) (s q x : ℕ) (own : Option ℕ) (p : Place) → MayStore q x own p → PlaceFits holds s p → Goes l p (stored s p)
   stored_goes holds s q x own (Announcing k w found ∷ p) ok fits = wanders _ _ refl refl (undue l None)
-  stored_goes holds s q x own (Withdrawing ∷ p) ok fits = wanders _ _ refl (left_awake s p fits) (undue l None)
-  stored_goes holds s q x own (Marking k found marked (u ∷ us) ∷ p) ok fits = goes_on _ _ refl (λ is. absurd (cc)) (undue l None)
+  stored_goes holds s q x own (Withdrawing ∷ p) ok fits = wanders _ _ refl (left_awake s want.UntilFree p fits) (undue l None)
+  stored_goes holds s q x own (Marking k updated found marked (u ∷ us) ∷ p) ok fits = goes_on _ _ refl (λ is. absurd (cc)) (undue l None)
   stored_goes holds s q x own (Calling k found marked (u ∷ us) ∷ p) ok fits = wanders _ _ refl refl (undue l None)
   stored_goes holds s q x own (Clearing (u ∷ us) ∷ p) ok fits = wanders _ _ refl refl (undue l None)
   stored_goes holds s q x own p ok fits = absurd ok
 
   pub reread_goes : (holds : List Hold) (s n : ℕ) (p : Place) → MayReread p → PlaceFits holds s p → Goes l p (reread s n p)
-  reread_goes holds s n (Checking k w found ∷ p) ok fits = wanders _ _ refl refl (undue l (entry_of k w))
+  reread_goes holds s n (Checking k w found ∷ GivingBack ∷ p) ok fits = wanders _ _ refl refl (undue l (entry_of k w))
+  reread_goes holds s n (Checking k w found ∷ VarLeaving old c ∷ p) ok fits = goes_on _ _ refl (λ is. is) (undue l (entry_of k w))
+  reread_goes holds s n (Checking k w found ∷ p) ok fits = absurd fits.1
   reread_goes holds s n (Sleeping k w a ∷ p) ok fits = by_field (eqb n 0)
     where
       slept : (b : Bool) (q : Place) → FollowsSleep holds k w b q → committed_at (resumed s q) ≡ None
@@ -238,6 +248,7 @@ module _ (l : ℕ) where
       slept false (GivingBack ∷ q) e = resumed_awake s q e.1
       slept false (Peeking j old ∷ VarUnqueued i older ∷ q) e = refl
       slept true (GivingBack ∷ q) e = resumed_awake s q e
+      slept true (VarLeaving old c ∷ q) e = resumed_awake s q e.1
       slept b q e = absurd e
 
       by_field : (b : Bool) → Goes l (Sleeping k w a ∷ p) (cond b (resumed s p) (Looking ∷ Sleeping k w a ∷ p))
@@ -247,11 +258,11 @@ module _ (l : ℕ) where
 
   -- the exchange of a wake for another lock, or one that missed
   pub detached_goes : (holds : List Hold) (s k w to n : ℕ) (p : Place) → k ≢ l → MayDetach k w to p → PlaceFits holds s p → Goes l p (detached true n p)
-  detached_goes holds s k w to n (Detaching j found word ∷ p) ne ok fits = passes (λ is. ne (sym ok.0 ∙ ap number_of is)) (λ is. let none = told_awake (taken_from found) p fits.2 in absurd (cc)) (undue l None)
+  detached_goes holds s k w to n (Detaching j updated found word ∷ p) ne ok fits = passes (λ is. ne (sym ok.0 ∙ ap number_of is)) (λ is. let none = told_awake (taken_from found) p fits.2 in absurd (cc)) (undue l None)
   detached_goes holds s k w to n p ne ok fits = absurd ok
 
   pub missed_goes : (k w to n : ℕ) (p : Place) → MayDetach k w to p → Goes l p (detached false n p)
-  missed_goes k w to n (Detaching j found word ∷ p) ok = goes_on _ _ refl (λ is. absurd (cc)) (undue l None)
+  missed_goes k w to n (Detaching j updated found word ∷ p) ok = goes_on _ _ refl (λ is. absurd (cc)) (undue l None)
   missed_goes k w to n p ok = absurd ok
 
   pub posted_goes : (holds : List Hold) (s q : ℕ) (own : Option ℕ) (p : Place) → Owes q own p → PlaceFits holds s p → Goes l p (posted (surplus_posted p s) p)
@@ -299,6 +310,10 @@ committed_queued l (TakingList k ∷ Comparing i old ∷ VarQueued j older ∷ p
 committed_queued l (Spinning k ∷ Comparing i old ∷ VarQueued j older ∷ p) e = e
 committed_queued l (Reading k old found ∷ VarQueued j older ∷ p) e = e
 committed_queued l (Returning k old found n ∷ VarQueued j older ∷ p) e = e
+committed_queued l (TakingList k ∷ Dequeueing j w ∷ VarLeaving old true ∷ p) e = e
+committed_queued l (Spinning k ∷ Dequeueing j w ∷ VarLeaving old true ∷ p) e = e
+committed_queued l (Checking k w found ∷ VarLeaving old true ∷ p) e = e
+committed_queued l (Removing k w found here ∷ VarLeaving old true ∷ p) e = e
 committed_queued l [] e = absurd (cc)
 committed_queued l p e = absurd (cc)
 

@@ -73,7 +73,7 @@ module _ (lawful : ℕ → List ℕ → Type 0) (z : Size) (s : LwState) (r : Ru
         (λ miss. read l _ below refl)
     here (Refuse l m w) on below numbered ok = read l _ below refl
     here (Sub l b) on below numbered ok = let n : ℕ = get_or s.words (state_at l) 0 in let k : LwStep = Sub l b in let is = some_mode (mode_in l v) (begun_release b l v (places.mine lawful z s r id v at).place ok.0).1 in
-        other l (n - grant_held (mode_in l v)) None _ below (ap mode_of_hold (hold_here v k l n (let_go l (n - grant_held (mode_in l v)) (releasing b v.place)) not_held v.grants (inside_holds l below)))
+        other l (n - grant_held (mode_in l v)) None _ below (ap mode_of_hold (hold_here v k l n (let_go b l (n - grant_held (mode_in l v)) (releasing b v.place)) not_held v.grants (inside_holds l below)))
         (subst (λ (x : Option Mode). CountsHolders (n - grant_held x) (set (map (mode_in l) s.views) id None)) (sym is.1) (counts_released (map (mode_in l) s.views) id n is.0 (at_seen (mode_in l) s.views id v (Some is.0) at is.1) (r.counts l below)))
     here (Peek l b) on below numbered ok = read l _ below refl
     here (Guard l k o) on below numbered ok = let n : ℕ = get_or s.words (guard_at l k) 0 in let x : ℕ = guard_becomes o n in same l (set s.words (guard_at l k) x) _ below (get_or-set_other s.words (guard_at l k) (state_at l) x 0 (λ e. omega arith))
@@ -87,7 +87,7 @@ module _ (lawful : ℕ → List ℕ → Type 0) (z : Size) (s : LwState) (r : Ru
         (λ miss. read l _ below refl)
       where
         woken : (p : Place) → get_or s.words (state_at l) 0 ≡ w → MayDetach l w to p → CountsHolders (get_or (set s.words (state_at l) to) (state_at l) 0) (map (mode_in l) (set s.views id (moved v (Wake l w to) (get_or s.words (state_at l) 0) (detached true (get_or s.words (state_at l) 0) v.place))))
-        woken (Detaching k found word ∷ p) hit d = flags l to _ below refl
+        woken (Detaching k updated found word ∷ p) hit d = flags l to _ below refl
             (ap lock_part d.2 ∙ (part_woken (taken_from found) (kept_from found) w ∙ ap lock_part (sym hit)))
             (subst (λ (x : ℕ). x < 2 ^ 32) (sym d.2) (small_woken (taken_from found) (kept_from found) w (subst (λ (x : ℕ). x < 2 ^ 32) hit (r.counts l below).fits)))
         woken p hit d = absurd d

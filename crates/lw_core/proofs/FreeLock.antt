@@ -12,6 +12,7 @@ use Rattle.seat_roster.specs.Totals.{total}
 use Rattle.seat_roster.proofs.Totals.{set_there}
 use Rattle.seat_roster.specs.Roster.{Numbers}
 use Rattle.seat_roster.proofs.Stretches.{seen, seen_more, at_seen, unseen}
+use Rattle.lw_core.specs.declared.step.Call.{Call}
 use Rattle.lw_core.specs.declared.step.Call.TheVariants as call
 use Rattle.lw_core.specs.declared.step.LwStep.{LwStep}
 use Rattle.lw_core.specs.declared.step.LwStep.TheVariants.{Load, Grant, Refuse, Sub, Peek, Guard, Lock, Unlock, Flag, WaitStore, WaitLoad, Wake, Post, Look, Down, SetReleaseOk, VarLoad, VarStore}
@@ -21,7 +22,7 @@ use Rattle.lw_core.specs.declared.view.Size.{Size}
 use Rattle.lw_core.specs.declared.view.View.{View}
 use Rattle.lw_core.specs.Words.{Waiters, state_at, guard_at, grant_held, is_free, lock_part, locked, release_ok, has_waiters, has_flag, var_at}
 use Rattle.lw_core.specs.WaitLists.{times, taken_from, kept_from, has_locker, home_list}
-use Rattle.lw_core.specs.Machine.{LwState, Place, outer, not_held, held, hold_in, mode_in, fresh, number_of, lock_number, IsInRange, word_of, becomes, moved, gripped, on_grant, on_refusal, calls_for_wake, let_go, in_hand, detached, posted, surplus_posted, next, MayTake, MayDetach, Allowed, after, HoldsNothing, releasing, taking, guard_hold}
+use Rattle.lw_core.specs.Machine.{LwState, Place, outer, not_held, held, hold_in, mode_in, fresh, number_of, lock_number, IsInRange, word_of, becomes, moved, gripped, on_grant, on_refusal, calls_for_wake, let_go, after_store, in_hand, detached, posted, surplus_posted, next, MayTake, MayDetach, Allowed, after, HoldsNothing, releasing, taking, guard_hold}
 use Rattle.lw_core.specs.Stances.{Stance, hand_list, hand_at, listed, queued_at, announced_at, due_at, stance_of}
 use Rattle.lw_core.specs.CountsHolders.{is_shared, is_exclusive}
 use Rattle.lw_core.specs.SeatFits.{PlaceFits}
@@ -94,16 +95,16 @@ data Outcome (l word : ℕ) (v w : View) : Type 0 where
   empties : has_flag has_waiters word ≡ 0 → Outcome l word v w
 
 -- a release that leaves the word x
-released : (l x word : ℕ) (v w : View) (p : Place) → w.place ≡ let_go l x p → word ≡ x → lock_part x ≡ 0 → Outcome l word v w
-released l x word v w p place is part = by_call (calls_for_wake x) refl
+released : (o : Option Call) (l x word : ℕ) (v w : View) (p : Place) → w.place ≡ let_go o l x p → word ≡ x → lock_part x ≡ 0 → Outcome l word v w
+released o l x word v w p place is part = by_call (calls_for_wake x) refl
   where
     by_call : (c : Bool) → calls_for_wake x ≡ c → Outcome l word v w
-    by_call true e = attending (ap attends_at place ∙ ap (λ (b : Bool). attends_at (cond b (TakingList l ∷ Waking l ∷ p) p)) e)
+    by_call true e = attending (ap attends_at place ∙ ap (λ (b : Bool). attends_at (cond b (TakingList l ∷ Waking l (after_store o) ∷ p) p)) e)
     by_call false e = ⊎_elim (λ clear. empties (ap (has_flag has_waiters) is ∙ clear)) (λ clear. settles (ap (has_flag release_ok) is ∙ clear)) (no_call x part e)
 
 -- the exchange of a wake: it took somebody who wants the lock, or leaves nobody on the list
 woken : (l k old to word : ℕ) (v w : View) (p : Place) → MayDetach k old to p → word ≡ to → Outcome l word v w
-woken l k old to word v w (Detaching j found n ∷ p) ok is = by_locker (has_locker (taken_from found)) refl
+woken l k old to word v w (Detaching j updated found n ∷ p) ok is = by_locker (has_locker (taken_from found)) refl
   where
     by_locker : (b : Bool) → has_locker (taken_from found) ≡ b → Outcome l word v w
     by_locker true e = settles (ap (has_flag release_ok) (is ∙ ok.2) ∙ woken_cleared (taken_from found) (kept_from found) old e)
@@ -158,7 +159,7 @@ module _ (lawful : ℕ → List ℕ → Type 0) (z : Size) (s : LwState) (r : Ru
       (λ ne. goes refl (subst (λ (p : Place). Goes l p (on_refusal (outer v.place))) (sym at_top) (refused_goes l i w v.surplus m (outer v.place) ne now.2))))
       (λ miss. goes refl (subst (λ (p : Place). Goes l p (Trying i m n ∷ outer v.place)) (sym at_top) (retried_goes l i w n v.surplus m (outer v.place) now.2)))
   outcome (Sub i b) inside ok free none = let n : ℕ = get_or s.words (state_at i) 0 in let x : ℕ = n - grant_held (mode_in i v) in dite (ℕ_discrete i l)
-      (λ is. let word = stored_here i x is in released l x (word_by (Sub i b)) v _ (releasing b v.place) (ap (λ (j : ℕ). let_go j x (releasing b v.place)) is) word (ap lock_part (sym word) ∙ free))
+      (λ is. let word = stored_here i x is in released b l x (word_by (Sub i b)) v _ (releasing b v.place) (ap (λ (j : ℕ). let_go b j x (releasing b v.place)) is) word (ap lock_part (sym word) ∙ free))
       (λ ne. goes (held_else i not_held ne) (let_go_goes l b i x v (begun_release b i v fits ok.0).0 ok.0))
   outcome (Peek i (Some (call.WaitForVar j old))) inside ok free none = goes refl (peeked_goes l v.surplus j old (get_or s.words (state_at i) 0) v.place ok.1)
   outcome (Peek i None) inside ok free none = let n : ℕ = get_or s.words (state_at i) 0 in goes refl (looked_on_goes l v.holds v.surplus i n v.place ok fits
@@ -166,7 +167,7 @@ module _ (lawful : ℕ → List ℕ → Type 0) (z : Size) (s : LwState) (r : Ru
   outcome (Peek i (Some c)) inside ok free none = absurd ok
   outcome (Guard i k o) inside ok free none = let h : Hold = guard_hold o (hold_in i v) k (get_or s.words (guard_at i k) 0) in
       goes (dite (ℕ_discrete i l) (λ is. held_here i h is ∙ ap (λ (j : ℕ). mode_in j v) is) (λ ne. held_else i h ne)) (begun_goes l v.place v.place ok.1 (ap committed_at ok.1))
-  outcome (Lock i b) inside ok free none = let now = taking_fits b i v fits ok in goes refl (taking_goes l b i v _ ok (by_place (taking b v.place) now.0 now.1))
+  outcome (Lock i b) inside ok free none = let now = taking_fits (lawful i) b i v fits ok in goes refl (taking_goes l (lawful i) b i v _ ok (by_place (taking b v.place) now.0 now.1))
     where
       by_place : (p : Place) → MayTake i p → PlaceFits v.holds v.surplus p → let clear = eqb (has_flag locked (get_or s.words (state_at i) 0)) 0 in Goes l p (cond clear (in_hand (home_list s.homes i) (outer p)) (Spinning i ∷ outer p))
       by_place (f ∷ p) may at_place = taken_goes l v.holds v.surplus i (home_list s.homes i) f p may at_place _

@@ -52,7 +52,7 @@ module _ (lawful : ℕ → List ℕ → Type 0) (z : Size) (s : LwState) (r : Ru
       (λ hit. other l _ (guarded s.words l) (held m) _ (guarded_off s.words l (w + grant_of m) l) (hold_here v k l n (on_grant v.surplus (outer v.place)) (held m) (v.grants + 1) (inside_holds l below))
       (guarded_granted (lawful l) (guarded s.words l) (map (hold_in l) s.views) (r.guarded l below) id (hold_in l v) m (seen_hold l) now.0))
       (λ miss. same l _ _ below (guarded_off s.words l n l) refl)
-  here (Sub l b) on below numbered ok = let n : ℕ = get_or s.words (state_at l) 0 in other l _ (guarded s.words l) not_held _ (guarded_off s.words l _ l) (hold_here v (Sub l b) l n (let_go l (n - grant_held (mode_in l v)) (releasing b v.place)) not_held v.grants (inside_holds l below))
+  here (Sub l b) on below numbered ok = let n : ℕ = get_or s.words (state_at l) 0 in other l _ (guarded s.words l) not_held _ (guarded_off s.words l _ l) (hold_here v (Sub l b) l n (let_go b l (n - grant_held (mode_in l v)) (releasing b v.place)) not_held v.grants (inside_holds l below))
       (guarded_released (lawful l) (guarded s.words l) (map (hold_in l) s.views) (r.guarded l below) id (hold_in l v) refl (seen_hold l) ok.1)
   here (Guard l k guard.Load) on below numbered ok = let n : ℕ = get_or s.words (guard_at l k) 0 in let is = some_mode (mode_in l v) ok.2 in
       other l (set s.words (guard_at l k) n) (guarded s.words l) (learnt (hold_in l v) k n) _ (ap (λ (x : List ℕ). guarded x l) (set-get_or s.words (guard_at l k) 0)) (hold_here v (Guard l k guard.Load) l n v.place (learnt (hold_in l v) k n) v.grants (inside_holds l below))

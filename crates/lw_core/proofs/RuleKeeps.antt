@@ -150,7 +150,7 @@ module _ (lawful : ℕ → List ℕ → Type 0) (z : Size) (s : LwState) (r : Ru
     tells (Grant l m w) inside numbered ok = ((r.counts l inside.0).fits, granted l w (get_or s.words (state_at l) 0) m (home_list s.homes l) inside.0)
     tells (Refuse l m w) inside numbered ok = (r.counts l inside.0).fits
     tells (Sub l b) inside numbered ok = let n : ℕ = get_or s.words (state_at l) 0 in
-        ((r.counts l inside.0).fits, hold_here v (Sub l b) l n (let_go l (n - grant_held (mode_in l v)) (releasing b v.place)) not_held v.grants (inside_holds lawful z s r id v at l inside.0))
+        ((r.counts l inside.0).fits, hold_here v (Sub l b) l n (let_go b l (n - grant_held (mode_in l v)) (releasing b v.place)) not_held v.grants (inside_holds lawful z s r id v at l inside.0))
     tells (Peek l b) inside numbered ok = ((r.counts l inside.0).fits, places.nothing_back lawful z s r id v at)
     tells (Guard l k o) inside numbered ok = let n : ℕ = get_or s.words (guard_at l k) 0 in
         (hold_here v (Guard l k o) l n v.place (guard_hold o (hold_in l v) k n) v.grants (inside_holds lawful z s r id v at l inside.0), writes_step lawful z s r id v at l k (guard_becomes o n) inside.0 ok.0, reads_step lawful z s r id v at l k inside.0 (ok.0, ok.1, guards_held (guard_writes o) (mode_in l v) ok.2))

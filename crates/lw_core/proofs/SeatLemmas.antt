@@ -116,7 +116,7 @@ module _ (lawful : ℕ → List ℕ → Type 0) where
   takes_empty : (k : LwStep) (v : View) (n : ℕ) → Allowed lawful k v → takes_list k n ≡ true → lock_in_hand (hand_at v.place) ≡ None
   takes_empty (Lock l b) v n ok taken = begun b ok
     where
-      begun : (b : Option Call) → BeginsTaking l b v → lock_in_hand (hand_at v.place) ≡ None
+      begun : (b : Option Call) → BeginsTaking (lawful l) l b v → lock_in_hand (hand_at v.place) ≡ None
       begun (Some (call.UpdateVar k x)) e = ap (λ (p : Place). lock_in_hand (hand_at p)) e.1
       begun (Some (call.ReleaseClearVar k x)) e = ap (λ (p : Place). lock_in_hand (hand_at p)) e.1
       begun (Some c) e = absurd e
@@ -175,7 +175,7 @@ module _ (lawful : ℕ → List ℕ → Type 0) where
   sending_at l j own clears p same ok = absurd ok
 
   detaching_at : (l j w to : ℕ) (p : Place) → j ≡ l → MayDetach j w to p → lock_in_hand (hand_at p) ≡ Some l
-  detaching_at l j w to (Detaching k found word ∷ p) same ok = ap Some (ok.0 ∙ same)
+  detaching_at l j w to (Detaching k updated found word ∷ p) same ok = ap Some (ok.0 ∙ same)
   detaching_at l j w to p same ok = absurd ok
 
   -- before such a step the list is in hand, and after one that failed it is still

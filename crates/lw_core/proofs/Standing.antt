@@ -19,9 +19,9 @@ use Rattle.lw_core.proofs.Lists.{times_append, times_parted, times_headed}
 use Rattle.lw_core.proofs.Turns.{IsSound}
 
 marked_in_hand : (holds : List Hold) (s p : ℕ) (place : Place) → PlaceFits holds s place → times p (marked_at place) ≤ times p (hand_list (hand_at place))
-marked_in_hand holds s p (Marking l found marked rest ∷ q) fits = let a = times_append p marked rest in let b = ap (times p) fits.0 in let c = times_parted p found in omega arith
+marked_in_hand holds s p (Marking l updated found marked rest ∷ q) fits = let a = times_append p marked rest in let b = ap (times p) fits.0 in let c = times_parted p found in omega arith
 marked_in_hand holds s p (Calling l found marked rest ∷ q) fits = let a = times_append p marked rest in let b = ap (times p) fits.0 in let c = times_headed p found in omega arith
-marked_in_hand holds s p (Detaching l found w ∷ q) fits = let c = times_parted p found in omega arith
+marked_in_hand holds s p (Detaching l updated found w ∷ q) fits = let c = times_parted p found in omega arith
 marked_in_hand holds s p place fits = omega arith
 
 announced_out : (place : Place) → announced_at place ≡ true → (round_at place ≡ false) × (due_at place ≡ None)
@@ -62,8 +62,8 @@ leaving_in [] e = refl
 leaving_in place e = refl
 
 queued_unmarked : (place : Place) (e : Entry) → queued_at place ≡ Some e → marked_at place ≡ []
-queued_unmarked (Marking l found marked rest ∷ q) e is = absurd (cc)
-queued_unmarked (Detaching l found w ∷ q) e is = absurd (cc)
+queued_unmarked (Marking l updated found marked rest ∷ q) e is = absurd (cc)
+queued_unmarked (Detaching l updated found w ∷ q) e is = absurd (cc)
 queued_unmarked (Calling l found marked rest ∷ q) e is = absurd (cc)
 queued_unmarked [] e is = refl
 queued_unmarked place e is = refl

@@ -61,7 +61,7 @@ gripped_else v k i n p h grants l other = get_or-set_other v.holds i l h not_hel
 -- a step leaves what the seat has of each lock that it isn't on
 pub hold_else : (k : LwStep) (v : View) (n : ℕ) (found : List Waiter) (l : ℕ) → (lock_of k ≡ Some l → ⊥) → hold_in l (next k v n found) ≡ hold_in l v
 hold_else (Grant i m w) v n found l other = either_way (hold_in l) (eqb n w) _ _ (hold_in l v) (gripped_else v (Grant i m w) i n (on_grant v.surplus (outer v.place)) (held m) (v.grants + 1) l (λ e. other (ap Some (sym e)))) refl
-hold_else (Sub i b) v n found l other = gripped_else v (Sub i b) i n (let_go i (n - grant_held (mode_in i v)) (releasing b v.place)) not_held v.grants l (λ e. other (ap Some (sym e)))
+hold_else (Sub i b) v n found l other = gripped_else v (Sub i b) i n (let_go b i (n - grant_held (mode_in i v)) (releasing b v.place)) not_held v.grants l (λ e. other (ap Some (sym e)))
 hold_else (Guard i k o) v n found l other = gripped_else v (Guard i k o) i n v.place (guard_hold o (hold_in i v) k n) v.grants l (λ e. other (ap Some (sym e)))
 hold_else (Post q b) v n found l other = poked_keeps (hold_in l) (λ _ _. refl) b _
 hold_else k v n found l other = refl

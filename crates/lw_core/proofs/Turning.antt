@@ -14,7 +14,7 @@ use Rattle.lw_core.specs.declared.step.Call.TheVariants as call
 use Rattle.lw_core.specs.declared.step.LwStep.{LwStep}
 use Rattle.lw_core.specs.declared.step.LwStep.TheVariants.{Load, Grant, Refuse, Sub, Peek, Guard, Lock, VarLoad, VarStore, Unlock, Flag, WaitStore, WaitLoad, Wake, Post, Look, Down, SetReleaseOk}
 use Rattle.lw_core.specs.declared.view.Frame.{Frame}
-use Rattle.lw_core.specs.declared.view.Frame.TheVariants.{Attempting, Trying, Unqueued, Queued, TakingList, Spinning, Queueing, Flagging, Announcing, Appending, Dequeueing, Checking, Removing, Withdrawing, Answering, Looking, Asleep, Downing, Sleeping, Woken, GivingBack, Waking, Marking, Detaching, Clearing, Posting, Peeking, Comparing, Reading, Returning, VarUnqueued, Allowing, VarQueued, Storing, Publishing, Calling, Unhanding, Releasing}
+use Rattle.lw_core.specs.declared.view.Frame.TheVariants.{Attempting, Trying, Unqueued, Queued, TakingList, Spinning, Queueing, Flagging, Announcing, Appending, Dequeueing, Checking, Removing, Withdrawing, Answering, Looking, Asleep, Downing, Sleeping, Woken, GivingBack, Waking, Marking, Detaching, Clearing, Posting, Peeking, Comparing, Reading, Returning, VarUnqueued, Allowing, VarQueued, VarLeaving, Storing, Publishing, Calling, Unhanding, Releasing}
 use Rattle.lw_core.specs.declared.view.Hold.{Hold}
 use Rattle.lw_core.specs.declared.view.Size.{Size}
 use Rattle.lw_core.specs.declared.view.Want.{Want}
@@ -23,7 +23,7 @@ use Rattle.lw_core.specs.declared.view.Waiter.{Waiter}
 use Rattle.lw_core.specs.Words.{Waiters, state_at, var_at, waiting_at, sem_at, grant_of, grant_held, is_free, lock_part, locked, release_ok, has_waiters, has_flag, set_flag, clear_flag}
 use Rattle.lw_core.specs.WaitLists.{waiter, times, joined_by, without, taken_from, kept_from, lockers_from, home_of, home_list}
 use Rattle.lw_core.specs.declared.view.View.{View}
-use Rattle.lw_core.specs.Machine.{Place, fresh, top, outer, number_of, lock_number, word_of, becomes, next, IsInRange, act_of, carried, downed_at, moved, gripped, held, mode_in, Allowed, want_of, resumed, on_grant, on_refusal, loaded, peeked, on_outcome, on_conflict, taking, releasing, compared, published, let_go, calls_for_wake, in_hand, flagged, sent_home, stored, reread, telling, detached, posted, looked, answered, surplus_found, surplus_posted, left_at, as_waiters, woken_word, MayLoad, MayTake, MaySendHome, MayFlag, MayStore, MayReread, MayDetach, Owes, MayLook, MayAnswer, MayPeek, BeginsTaking, MayReadVar, MayStoreVar, BeginsRelease}
+use Rattle.lw_core.specs.Machine.{Place, fresh, top, outer, number_of, lock_number, word_of, becomes, next, IsInRange, act_of, carried, downed_at, moved, gripped, held, mode_in, Allowed, want_of, resumed, on_grant, on_refusal, loaded, peeked, on_outcome, on_conflict, taking, releasing, compared, published, let_go, after_store, calls_for_wake, in_hand, flagged, sent_home, stored, reread, telling, detached, posted, looked, answered, surplus_found, surplus_posted, left_at, as_waiters, woken_word, MayLoad, MayTake, MaySendHome, MayFlag, MayStore, MayReread, MayDetach, Owes, MayLook, MayAnswer, MayPeek, BeginsTaking, MayReadVar, MayStoreVar, BeginsRelease}
 use Rattle.lw_core.specs.SeatFits.{FollowsAttempt, FollowsLook, FollowsLeaving, FollowsSleep, FollowsDown, FollowsTaking, PlaceFits}
 use Rattle.lw_core.specs.Stances.{Stance, hand_of, entry_of, due_of, hand_at, stance_of}
 use Rattle.lw_core.specs.Told.{lock_in_hand, HandFollows}
@@ -69,9 +69,10 @@ module _ (own : Option ℕ) (s : ℕ) (poked downed : List ℕ) where
       by_surplus true = ap at_place e
       by_surplus false = refl
 
-  left_idle : (p : Place) → FollowsLeaving p → at_place (resumed s p) ≡ at_place []
-  left_idle (GivingBack ∷ p) e = resumed_idle p e
-  left_idle p e = absurd e
+  left_idle : (w : Want) (p : Place) → FollowsLeaving w p → at_place (resumed s p) ≡ at_place []
+  left_idle w (GivingBack ∷ p) e = resumed_idle p e
+  left_idle w (VarLeaving old c ∷ p) e = resumed_idle p e.1
+  left_idle w p e = absurd e
 
   loaded_same : (holds : List Hold) (l n : ℕ) (p : Place) → MayLoad l p → PlaceFits holds s p → at_place (loaded None n p) ≡ at_place p
   loaded_same holds l n (Attempting k m ∷ []) ok fits = absurd fits
@@ -84,13 +85,13 @@ module _ (own : Option ℕ) (s : ℕ) (poked downed : List ℕ) where
       by_word false q fits = refl
       by_word true (Queueing j w ∷ q) fits = refl
       by_word true (Dequeueing j w ∷ q) fits = refl
-      by_word true (Waking j ∷ q) fits = refl
+      by_word true (Waking j updated ∷ q) fits = refl
       by_word true (Comparing j old ∷ VarUnqueued i older ∷ q) fits = refl
       by_word true (Comparing j old ∷ VarQueued i older ∷ q) fits = refl
       by_word true (Comparing j old ∷ q) fits = absurd fits.2
       by_word true (Storing j x b ∷ q) fits = refl
       by_word true q fits = absurd fits
-  loaded_same holds l n (Marking k found marked [] ∷ p) ok fits = λ i. record (at_place (Marking k found marked [] ∷ p)) { marked = (sym fits.0 ∙ append-nil marked) i }
+  loaded_same holds l n (Marking k updated found marked [] ∷ p) ok fits = λ i. record (at_place (Marking k updated found marked [] ∷ p)) { marked = (sym fits.0 ∙ append-nil marked) i }
   loaded_same holds l n p ok fits = absurd ok
 
   begun_same : (p : Place) (f : Place → Place) → p ≡ [] → at_place (f []) ≡ at_place [] → at_place (f p) ≡ at_place p
@@ -114,11 +115,11 @@ module _ (own : Option ℕ) (s : ℕ) (poked downed : List ℕ) where
   retried_same l w n m (Queued k i u ∷ p) e = refl
   retried_same l w n m p e = absurd e
 
-  let_go_same : (l w : ℕ) (p : Place) → p ≡ [] → at_place (let_go l w p) ≡ at_place p
-  let_go_same l w p e = by_call (calls_for_wake w)
+  let_go_same : (o : Option Call) (l w : ℕ) (p : Place) → p ≡ [] → at_place (let_go o l w p) ≡ at_place p
+  let_go_same o l w p e = by_call (calls_for_wake w)
     where
-      by_call : (b : Bool) → at_place (cond b (TakingList l ∷ Waking l ∷ p) p) ≡ at_place p
-      by_call true = begun_same p (λ (q : Place). TakingList l ∷ Waking l ∷ q) e refl
+      by_call : (b : Bool) → at_place (cond b (TakingList l ∷ Waking l (after_store o) ∷ p) p) ≡ at_place p
+      by_call true = begun_same p (λ (q : Place). TakingList l ∷ Waking l (after_store o) ∷ q) e refl
       by_call false = refl
 
   -- a release that is part of another call
@@ -141,7 +142,7 @@ module _ (own : Option ℕ) (s : ℕ) (poked downed : List ℕ) where
       by_word false = refl
   looked_on_same holds l n (Peeking k old ∷ VarQueued j older ∷ q) ok fits = by_word (is_free mode.Shared n)
     where
-      by_word : (b : Bool) → at_place (cond b (TakingList j ∷ Dequeueing j want.UntilFree ∷ GivingBack ∷ q) (TakingList k ∷ Comparing k old ∷ VarQueued j older ∷ q)) ≡ at_place (Peeking k old ∷ VarQueued j older ∷ q)
+      by_word : (b : Bool) → at_place (cond b (TakingList j ∷ Dequeueing j want.UntilFree ∷ VarLeaving older false ∷ q) (TakingList k ∷ Comparing k old ∷ VarQueued j older ∷ q)) ≡ at_place (Peeking k old ∷ VarQueued j older ∷ q)
       by_word true = refl
       by_word false = refl
   looked_on_same holds l n (Peeking k old ∷ q) ok fits = absurd fits.1
@@ -158,17 +159,17 @@ module _ (own : Option ℕ) (s : ℕ) (poked downed : List ℕ) where
   published_same l x (Publishing k y found false ∷ p) ok = refl
   published_same l x p ok = absurd ok
 
-  taking_same : (b : Option Call) (l : ℕ) (v : View) (p : Place) → v.place ≡ p → BeginsTaking l b v → at_place (taking b p) ≡ at_place p
-  taking_same (Some (call.UpdateVar k x)) l v p e ok = begun_same p (λ (q : Place). TakingList k ∷ Storing k x false ∷ q) (sym e ∙ ok.1) refl
-  taking_same (Some (call.ReleaseClearVar k x)) l v p e ok = begun_same p (λ (q : Place). TakingList k ∷ Storing k x true ∷ q) (sym e ∙ ok.1) refl
-  taking_same (Some c) l v p e ok = absurd ok
-  taking_same None l v p e ok = refl
+  taking_same : (lawful : List ℕ → Type 0) (b : Option Call) (l : ℕ) (v : View) (p : Place) → v.place ≡ p → BeginsTaking lawful l b v → at_place (taking b p) ≡ at_place p
+  taking_same lawful (Some (call.UpdateVar k x)) l v p e ok = begun_same p (λ (q : Place). TakingList k ∷ Storing k x false ∷ q) (sym e ∙ ok.1) refl
+  taking_same lawful (Some (call.ReleaseClearVar k x)) l v p e ok = begun_same p (λ (q : Place). TakingList k ∷ Storing k x true ∷ q) (sym e ∙ ok.1) refl
+  taking_same lawful (Some c) l v p e ok = absurd ok
+  taking_same lawful None l v p e ok = refl
 
   -- the list is in hand, or somebody else has it
   taken_hand : (holds : List Hold) (l : ℕ) (f : Frame) (found : List Waiter) (p : Place) → MayTake l (f ∷ p) → PlaceFits holds s (f ∷ p) → at_place (in_hand found p) ≡ record (at_place (f ∷ p)) { hand = hand_of l found }
   taken_hand holds l (TakingList k) found (Queueing j w ∷ p) ok fits = λ i. record (at_place (TakingList k ∷ Queueing j w ∷ p)) { hand = hand_of ((fits.0 ∙ ok) i) found }
   taken_hand holds l (TakingList k) found (Dequeueing j w ∷ p) ok fits = λ i. record (at_place (TakingList k ∷ Dequeueing j w ∷ p)) { hand = hand_of ((fits.0 ∙ ok) i) found }
-  taken_hand holds l (TakingList k) found (Waking j ∷ p) ok fits = λ i. record (at_place (TakingList k ∷ Waking j ∷ p)) { hand = hand_of ((fits.0 ∙ ok) i) found }
+  taken_hand holds l (TakingList k) found (Waking j updated ∷ p) ok fits = λ i. record (at_place (TakingList k ∷ Waking j updated ∷ p)) { hand = hand_of ((fits.0 ∙ ok) i) found }
   taken_hand holds l (TakingList k) found (Comparing j old ∷ VarUnqueued i older ∷ p) ok fits = λ x. record (at_place (TakingList k ∷ Comparing j old ∷ VarUnqueued i older ∷ p)) { hand = hand_of ((fits.0 ∙ ok) x) found }
   taken_hand holds l (TakingList k) found (Comparing j old ∷ VarQueued i older ∷ p) ok fits = λ x. record (at_place (TakingList k ∷ Comparing j old ∷ VarQueued i older ∷ p)) { hand = hand_of ((fits.0 ∙ ok) x) found }
   taken_hand holds l (TakingList k) found (Comparing j old ∷ p) ok fits = absurd fits.2
@@ -182,7 +183,7 @@ module _ (own : Option ℕ) (s : ℕ) (poked downed : List ℕ) where
   spun_same : (holds : List Hold) (l : ℕ) (f : Frame) (p : Place) → MayTake l (f ∷ p) → PlaceFits holds s (f ∷ p) → at_place (Spinning l ∷ p) ≡ at_place (f ∷ p)
   spun_same holds l (TakingList k) (Queueing j w ∷ p) ok fits = refl
   spun_same holds l (TakingList k) (Dequeueing j w ∷ p) ok fits = refl
-  spun_same holds l (TakingList k) (Waking j ∷ p) ok fits = refl
+  spun_same holds l (TakingList k) (Waking j updated ∷ p) ok fits = refl
   spun_same holds l (TakingList k) (Comparing j old ∷ VarUnqueued i older ∷ p) ok fits = refl
   spun_same holds l (TakingList k) (Comparing j old ∷ VarQueued i older ∷ p) ok fits = refl
   spun_same holds l (TakingList k) (Comparing j old ∷ p) ok fits = absurd fits.2
@@ -245,7 +246,7 @@ module _ (z : Size) (words : List ℕ) (homes : Homes) (own : Option ℕ) (s : �
   unlock_turned holds l c (Appending k w found ∷ q) ok fits inside = absurd fits.1
   unlock_turned holds l c (Returning k old found n ∷ q) ok fits inside = returns l found (as_waiters found) inside refl (ap (λ (x : Bool). cond x (clear_flag has_waiters (clear_flag locked (found_at (state_at l)))) (clear_flag locked (found_at (state_at l)))) ok.1) refl refl (ap (λ (j : ℕ). hand_of j found) ok.0) refl refl refl (returned (eqb n old) q fits.1)
     where
-      returned : (b : Bool) (q : Place) → FollowsLook k old q → at (cond b (on_conflict q) (on_outcome s q)) ≡ record (at (Returning k old found n ∷ q)) { hand = None }
+      returned : (b : Bool) (q : Place) → FollowsLook k old q → at (cond b (on_conflict q) (on_outcome true s q)) ≡ record (at (Returning k old found n ∷ q)) { hand = None }
       returned true (VarUnqueued j older ∷ r) e = refl
       returned true (VarQueued j older ∷ r) e = refl
       returned false (VarUnqueued j older ∷ r) e = resumed_idle own s poked downed r e.2
@@ -260,8 +261,8 @@ module _ (z : Size) (words : List ℕ) (homes : Homes) (own : Option ℕ) (s : �
   -- a waiting field is stored
   pub store_turned : (holds : List Hold) (q x : ℕ) (place : Place) → MayStore q x own place → PlaceFits holds s place → q < z.procs → Turn z words homes homes (waiting_at z q) x (at place) (at (stored s place))
   store_turned holds q x (Announcing l w found ∷ r) ok fits inside = announces q inside ok.0 refl ok.1 refl refl refl refl
-  store_turned holds q x (Withdrawing ∷ r) ok fits inside = withdraws q inside ok.0 refl ok.1 refl refl refl (left_idle own s poked downed r fits)
-  store_turned holds q x (Marking l found marked (u ∷ us) ∷ r) ok fits inside = marks l u found marked us (subst (λ (n : ℕ). n < z.procs) (sym ok.0) inside) (ap (waiting_at z) (sym ok.0)) ok.1 refl refl refl
+  store_turned holds q x (Withdrawing ∷ r) ok fits inside = withdraws q inside ok.0 refl ok.1 refl refl refl (left_idle own s poked downed want.UntilFree r fits)
+  store_turned holds q x (Marking l updated found marked (u ∷ us) ∷ r) ok fits inside = marks l u found marked us (subst (λ (n : ℕ). n < z.procs) (sym ok.0) inside) (ap (waiting_at z) (sym ok.0)) ok.1 refl refl refl
       (λ n. let all = ap (times n) fits.0 in let parts = times_parted n found in omega arith) refl refl
   store_turned holds q x (Calling l found marked (u ∷ us) ∷ r) ok fits inside = marks l u found marked us (subst (λ (n : ℕ). n < z.procs) (sym ok.0) inside) (ap (waiting_at z) (sym ok.0)) ok.1 refl refl refl
       (λ n. let all = ap (times n) fits.0 in let parts = times_headed n found in omega arith) refl refl
@@ -283,6 +284,7 @@ module _ (z : Size) (words : List ℕ) (homes : Homes) (own : Option ℕ) (s : �
       slept false (GivingBack ∷ q) e = resumed_idle own s poked downed q e.1 ∙ (λ i. record (at (Sleeping l w true ∷ GivingBack ∷ q)) { between = false; round = false; queued = None; due = ap (λ (u : Want). due_of (entry_of l u)) (sym e.0) i })
       slept false (Peeking k old ∷ VarUnqueued j older ∷ q) e = λ i. record (at (Sleeping l w true ∷ Peeking k old ∷ VarUnqueued j older ∷ q)) { between = false; round = false; queued = None; due = ap (λ (u : Want). due_of (entry_of l u)) (sym e.3) i }
       slept true (GivingBack ∷ q) e = resumed_idle own s poked downed q e
+      slept true (VarLeaving old c ∷ q) e = resumed_idle own s poked downed q e.1
       slept b q e = absurd e
 
       overslept : (b : Bool) → stance own (Looking ∷ Sleeping l w b ∷ r) (s + 1) poked downed ≡ record (at (Sleeping l w b ∷ r)) { between = false; surplus = s + 1 }
@@ -293,12 +295,12 @@ module _ (z : Size) (words : List ℕ) (homes : Homes) (own : Option ℕ) (s : �
   -- the exchange of a wake
   pub wake_turned : (holds : List Hold) (l w to : ℕ) (place : Place) → MayDetach l w to place → PlaceFits holds s place → l < z.locks → found_at (state_at l) ≡ w
       → Turn z words homes (set homes l (maybe.some (as_waiters (left_at place p)))) (state_at l) to (at place) (at (detached true (found_at (state_at l)) place))
-  wake_turned holds l w to (Detaching k found word ∷ r) ok fits inside hit = detaches l found (as_waiters (kept_from found)) inside refl (ok.2 ∙ ap (woken_word (taken_from found) (kept_from found)) (sym hit)) refl refl
+  wake_turned holds l w to (Detaching k updated found word ∷ r) ok fits inside hit = detaches l found (as_waiters (kept_from found)) inside refl (ok.2 ∙ ap (woken_word (taken_from found) (kept_from found)) (sym hit)) refl refl
       (ap (λ (j : ℕ). hand_of j found) ok.0) refl refl refl refl refl (told own s poked downed (taken_from found) r fits.2)
   wake_turned holds l w to place ok fits inside hit = absurd ok
 
   pub wake_retried : (l w to n : ℕ) (place : Place) → MayDetach l w to place → at (detached false n place) ≡ at place
-  wake_retried l w to n (Detaching k found word ∷ r) ok = refl
+  wake_retried l w to n (Detaching k updated found word ∷ r) ok = refl
   wake_retried l w to n place ok = absurd ok
 
   -- a semaphore is posted
@@ -376,12 +378,12 @@ module _ (lawful : ℕ → List ℕ → Type 0) (z : Size) (words : List ℕ) (h
       (λ hit. stays (reads refl) refl (refused_same v.own v.surplus v.poked v.downed l w m (outer v.place) (attempt v fits l w m ok.0) ∙ ap (λ (q : Place). stance v.own q v.surplus v.poked v.downed) (sym at_top)))
       (λ miss. stays (reads refl) refl (retried_same v.own v.surplus v.poked v.downed l w n m (outer v.place) (attempt v fits l w m ok.0) ∙ ap (λ (q : Place). stance v.own q v.surplus v.poked v.downed) (sym at_top)))
   turned (Sub l b) inside ok = let n : ℕ = get_or words (state_at l) 0 in let same = let_go_flag (grant_held (mode_in l v)) n (enough l inside.0) in
-      stays (grants l inside.0 refl same.0 same.1 same.2) refl (let_go_same v.own v.surplus v.poked v.downed l (n - grant_held (mode_in l v)) (releasing b v.place) (begun_release b l v fits ok.0).0 ∙ released_same v.own v.surplus v.poked v.downed b l v (begun_release b l v fits ok.0).0 ok.0)
+      stays (grants l inside.0 refl same.0 same.1 same.2) refl (let_go_same v.own v.surplus v.poked v.downed b l (n - grant_held (mode_in l v)) (releasing b v.place) (begun_release b l v fits ok.0).0 ∙ released_same v.own v.surplus v.poked v.downed b l v (begun_release b l v fits ok.0).0 ok.0)
   turned (Peek l (Some (call.WaitForVar k old))) inside ok = stays (reads refl) refl (peeked_same v.own v.surplus v.poked v.downed k old (get_or words (state_at l) 0) v.place ok.1)
   turned (Peek l None) inside ok = stays (reads refl) refl (looked_on_same v.own v.surplus v.poked v.downed v.holds l (get_or words (state_at l) 0) v.place ok fits)
   turned (Peek l (Some c)) inside ok = absurd ok
   turned (Guard l k o) inside ok = stays (guards l k inside.0 ok.0 refl) refl refl
-  turned (Lock l b) inside ok = let now = taking_fits b l v fits ok in let same = taking_same v.own v.surplus v.poked v.downed b l v v.place refl ok in let q : Place = taking b v.place in let i : ℕ = state_at l in let n : ℕ = get_or words i 0 in let found : List Waiter = home_list homes l in
+  turned (Lock l b) inside ok = let now = taking_fits (lawful l) b l v fits ok in let same = taking_same v.own v.surplus v.poked v.downed (lawful l) b l v v.place refl ok in let q : Place = taking b v.place in let i : ℕ = state_at l in let n : ℕ = get_or words i 0 in let found : List Waiter = home_list homes l in
       dite (ℕ_discrete (has_flag locked n) 0)
       (λ clear. let there = home l inside.0 clear in
       subst (λ (c : Bool). Turn z words homes (homes_after homes (carried (Lock l b) v) (cond c (takes_out l (as_waiters found)) keeps)) i (set_flag locked n) (stance_of v) (stance_of (moved v (Lock l b) n (cond c (in_hand found (outer q)) (Spinning l ∷ outer q))))) (sym (eq-eqb (has_flag locked n) 0 clear))
@@ -423,7 +425,7 @@ lock_held u = lock_in_hand u.hand
 pub takes_none : (l : ℕ) (p : Place) → MayTake l p → lock_in_hand (hand_at p) ≡ None
 takes_none l (TakingList k ∷ Queueing j w ∷ p) ok = refl
 takes_none l (TakingList k ∷ Dequeueing j w ∷ p) ok = refl
-takes_none l (TakingList k ∷ Waking j ∷ p) ok = refl
+takes_none l (TakingList k ∷ Waking j updated ∷ p) ok = refl
 takes_none l (TakingList k ∷ Comparing j old ∷ p) ok = refl
 takes_none l (TakingList k ∷ Storing j x b ∷ p) ok = refl
 takes_none l p ok = absurd ok
@@ -437,7 +439,7 @@ module _ (own : Option ℕ) (s : ℕ) (poked downed : List ℕ) where
   hand_unlocked holds l o c (Appending k w found ∷ q) ok fits = absurd fits.1
   hand_unlocked holds l o c (Returning k old found n ∷ q) ok fits = returned (eqb n old) q fits.1
     where
-      returned : (b : Bool) (q : Place) → FollowsLook k old q → lock_in_hand (hand_at (cond b (on_conflict q) (on_outcome s q))) ≡ None
+      returned : (b : Bool) (q : Place) → FollowsLook k old q → lock_in_hand (hand_at (cond b (on_conflict q) (on_outcome true s q))) ≡ None
       returned true (VarUnqueued j older ∷ r) e = refl
       returned true (VarQueued j older ∷ r) e = refl
       returned false (VarUnqueued j older ∷ r) e = ap lock_held (resumed_idle own s poked downed r e.2)
@@ -453,8 +455,8 @@ module _ (own : Option ℕ) (s : ℕ) (poked downed : List ℕ) where
 
   hand_stored : (holds : List Hold) (q x : ℕ) (p : Place) → MayStore q x own p → PlaceFits holds s p → lock_in_hand (hand_at (stored s p)) ≡ lock_in_hand (hand_at p)
   hand_stored holds q x (Announcing l w found ∷ r) ok fits = refl
-  hand_stored holds q x (Withdrawing ∷ r) ok fits = ap lock_held (left_idle own s poked downed r fits)
-  hand_stored holds q x (Marking l found marked (u ∷ us) ∷ r) ok fits = refl
+  hand_stored holds q x (Withdrawing ∷ r) ok fits = ap lock_held (left_idle own s poked downed want.UntilFree r fits)
+  hand_stored holds q x (Marking l updated found marked (u ∷ us) ∷ r) ok fits = refl
   hand_stored holds q x (Calling l found marked (u ∷ us) ∷ r) ok fits = refl
   hand_stored holds q x (Clearing (u ∷ us) ∷ r) ok fits = refl
   hand_stored holds q x p ok fits = absurd ok
@@ -468,6 +470,7 @@ module _ (own : Option ℕ) (s : ℕ) (poked downed : List ℕ) where
       slept false (GivingBack ∷ q) e = ap lock_held (resumed_idle own s poked downed q e.1)
       slept false (Peeking k old ∷ VarUnqueued j older ∷ q) e = refl
       slept true (GivingBack ∷ q) e = ap lock_held (resumed_idle own s poked downed q e)
+      slept true (VarLeaving old c ∷ q) e = ap lock_held (resumed_idle own s poked downed q e.1)
       slept b q e = absurd e
 
       by_field : (b : Bool) → lock_in_hand (hand_at (cond b (resumed s r) (Looking ∷ Sleeping l w a ∷ r))) ≡ None
@@ -476,8 +479,8 @@ module _ (own : Option ℕ) (s : ℕ) (poked downed : List ℕ) where
   hand_reread holds n p ok fits = absurd ok
 
   hand_detached : (holds : List Hold) (l w to n : ℕ) (p : Place) → MayDetach l w to p → PlaceFits holds s p → (hit : Bool) → lock_in_hand (hand_at (detached hit n p)) ≡ cond hit None (lock_in_hand (hand_at p))
-  hand_detached holds l w to n (Detaching k found word ∷ r) ok fits true = ap lock_held (told own s poked downed (taken_from found) r fits.2)
-  hand_detached holds l w to n (Detaching k found word ∷ r) ok fits false = refl
+  hand_detached holds l w to n (Detaching k updated found word ∷ r) ok fits true = ap lock_held (told own s poked downed (taken_from found) r fits.2)
+  hand_detached holds l w to n (Detaching k updated found word ∷ r) ok fits false = refl
   hand_detached holds l w to n p ok fits hit = absurd ok
 
   hand_posted : (holds : List Hold) (q : ℕ) (p : Place) → Owes q own p → PlaceFits holds s p → lock_in_hand (hand_at (posted (surplus_posted p s) p)) ≡ lock_in_hand (hand_at p)
@@ -528,12 +531,12 @@ module _ (lawful : ℕ → List ℕ → Type 0) (z : Size) (v : View) (fits : Pl
       on_exchange n w (λ (b : Bool). lock_in_hand (hand_at (cond b (on_refusal (outer v.place)) (Trying l m n ∷ outer v.place))) ≡ lock_in_hand (hand_at v.place))
       (λ _. ap lock_held (refused_same v.own v.surplus v.poked v.downed l w m (outer v.place) (attempt v fits l w m ok.0)) ∙ at_top)
       (λ _. ap lock_held (retried_same v.own v.surplus v.poked v.downed l w n m (outer v.place) (attempt v fits l w m ok.0)) ∙ at_top)
-  hand_follows (Sub l b) n found ok = ap lock_held (let_go_same v.own v.surplus v.poked v.downed l (n - grant_held (mode_in l v)) (releasing b v.place) (begun_release b l v fits ok.0).0 ∙ released_same v.own v.surplus v.poked v.downed b l v (begun_release b l v fits ok.0).0 ok.0)
+  hand_follows (Sub l b) n found ok = ap lock_held (let_go_same v.own v.surplus v.poked v.downed b l (n - grant_held (mode_in l v)) (releasing b v.place) (begun_release b l v fits ok.0).0 ∙ released_same v.own v.surplus v.poked v.downed b l v (begun_release b l v fits ok.0).0 ok.0)
   hand_follows (Peek l (Some (call.WaitForVar k old))) n found ok = ap lock_held (peeked_same v.own v.surplus v.poked v.downed k old n v.place ok.1)
   hand_follows (Peek l None) n found ok = ap lock_held (looked_on_same v.own v.surplus v.poked v.downed v.holds l n v.place ok fits)
   hand_follows (Peek l (Some c)) n found ok = absurd ok
   hand_follows (Guard l k o) n found ok = refl
-  hand_follows (Lock l b) n found ok = let now = taking_fits b l v fits ok in let same = ap lock_held (taking_same v.own v.surplus v.poked v.downed b l v v.place refl ok) in
+  hand_follows (Lock l b) n found ok = let now = taking_fits (lawful l) b l v fits ok in let same = ap lock_held (taking_same v.own v.surplus v.poked v.downed (lawful l) b l v v.place refl ok) in
       subst (λ (o : Option ℕ). lock_in_hand (hand_at (cond (eqb (has_flag locked n) 0) (in_hand found (outer (taking b v.place))) (Spinning l ∷ outer (taking b v.place)))) ≡ cond (eqb (has_flag locked n) 0) (Some l) o) same (by_place (taking b v.place) now.0 now.1 (eqb (has_flag locked n) 0))
     where
       by_place : (q : Place) → MayTake l q → PlaceFits v.holds v.surplus q → (b : Bool) → lock_in_hand (hand_at (cond b (in_hand found (outer q)) (Spinning l ∷ outer q))) ≡ cond b (Some l) (lock_in_hand (hand_at q))

@@ -148,7 +148,7 @@ module _ (lawful : ℕ → List ℕ → Type 0) (z : Size) (s : LwState) (r : Ru
   woken i w to word ok is word_is = by_place v.place ok first
     where
       by_place : (p : Place) → MayDetach i w to p → IsUntilFreeFirst (hand_list (hand_at p)) → AllCalled l word (set s.homes i (maybe.some (as_waiters (left_at p (number_of v.own)))))
-      by_place (Detaching j found n ∷ p) may ordered = called i word is (kept_from found) (kept_locks found ordered) (ap (has_flag locked) (word_is ∙ may.2) ∙ woken_unlocked (taken_from found) (kept_from found) w)
+      by_place (Detaching j updated found n ∷ p) may ordered = called i word is (kept_from found) (kept_locks found ordered) (ap (has_flag locked) (word_is ∙ may.2) ∙ woken_unlocked (taken_from found) (kept_from found) w)
       by_place p may ordered = absurd may
 
   -- a release that calls for no wake left nobody on the list, or RELEASE_OK is clear
@@ -183,7 +183,7 @@ module _ (lawful : ℕ → List ℕ → Type 0) (z : Size) (s : LwState) (r : Ru
   does (Peek i None) inside ok = looked_on_goes l _ _ _ v.holds v.surplus i (get_or s.words (state_at i) 0) v.place ok fits
   does (Peek i (Some c)) inside ok = absurd ok
   does (Guard i k o) inside ok = idle_goes l _ _ _ v.place v.place ok.1 refl
-  does (Lock i b) inside ok = let now = taking_fits b i v fits ok in taking_goes l _ _ _ b i v _ ok (by_place (taking b v.place) now.0 now.1)
+  does (Lock i b) inside ok = let now = taking_fits (lawful i) b i v fits ok in taking_goes l _ _ _ (lawful i) b i v _ ok (by_place (taking b v.place) now.0 now.1)
     where
       by_place : (p : Place) → MayTake i p → PlaceFits v.holds v.surplus p → let clear = eqb (has_flag locked (get_or s.words (state_at i) 0)) 0 in Takes (Lock i b) p (cond clear (in_hand (home_list s.homes i) (outer p)) (Spinning i ∷ outer p))
       by_place (f ∷ p) may at_place = taken_goes l _ _ _ v.holds v.surplus i (home_list s.homes i) f p may at_place _

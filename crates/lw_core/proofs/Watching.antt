@@ -6,7 +6,7 @@ use Rattle.proc_table.specs.declared.Mode.TheVariants as mode
 use Rattle.lw_core.specs.declared.step.Call.{Call}
 use Rattle.lw_core.specs.declared.step.Call.TheVariants as call
 use Rattle.lw_core.specs.declared.view.Frame.{Frame}
-use Rattle.lw_core.specs.declared.view.Frame.TheVariants.{Attempting, Trying, Unqueued, Queued, TakingList, Spinning, Queueing, Flagging, Announcing, Appending, Dequeueing, Checking, Removing, Withdrawing, Answering, Looking, Asleep, Downing, Sleeping, Woken, GivingBack, Waking, Marking, Detaching, Clearing, Posting, Peeking, Comparing, Reading, Returning, VarUnqueued, Allowing, VarQueued, Storing, Publishing, Calling, Unhanding, Releasing}
+use Rattle.lw_core.specs.declared.view.Frame.TheVariants.{Attempting, Trying, Unqueued, Queued, TakingList, Spinning, Queueing, Flagging, Announcing, Appending, Dequeueing, Checking, Removing, Withdrawing, Answering, Looking, Asleep, Downing, Sleeping, Woken, GivingBack, Waking, Marking, Detaching, Clearing, Posting, Peeking, Comparing, Reading, Returning, VarUnqueued, Allowing, VarQueued, VarLeaving, Storing, Publishing, Calling, Unhanding, Releasing}
 use Rattle.lw_core.specs.declared.view.Hold.{Hold}
 use Rattle.lw_core.specs.declared.view.View.{View}
 use Rattle.lw_core.specs.declared.view.Want.{Want}
@@ -48,6 +48,14 @@ pub record Goes (l x : ℕ) (IsSet IsDone : Type 0) (p q : Place) : Type 0 where
   pub reads : (n : ℕ) → reads_at q ≡ watch_of l n → x ≡ n
   pub updates : updates_at p ≡ Some l → (updates_at q ≡ Some l) ⊎ IsDone
 
+same_watch : (a b c d : ℕ) → a ≡ b → c ≡ d → watch_of a c ≡ watch_of b d
+same_watch a b c d e f = λ h. watch_of (e h) (f h)
+
+-- the lock of a release that stored the variable
+updated_lock : (b : Bool) (j l : ℕ) → cond {A = Option ℕ} b (Some j) None ≡ Some l → j ≡ l
+updated_lock true j l e = cc
+updated_lock false j l e = absurd (cc)
+
 module _ (l x : ℕ) (IsSet IsDone : Type 0) where
   abbrev Passes : Place → Place → Type 0
   Passes p q = Goes l x IsSet IsDone p q
@@ -84,9 +92,10 @@ module _ (l x : ℕ) (IsSet IsDone : Type 0) where
       by_surplus true = ap sight e
       by_surplus false = refl
 
-  left_blind : (s : ℕ) (p : Place) → FollowsLeaving p → sight (resumed s p) ≡ blind
-  left_blind s (GivingBack ∷ p) e = resumed_blind s p e
-  left_blind s p e = absurd e
+  left_blind : (s : ℕ) (w : Want) (p : Place) → FollowsLeaving w p → sight (resumed s p) ≡ blind
+  left_blind s w (GivingBack ∷ p) e = resumed_blind s p e
+  left_blind s w (VarLeaving old c ∷ p) e = resumed_blind s p e.1
+  left_blind s w p e = absurd e
 
   told_blind : (us : List Waiter) (p : Place) → p ≡ [] → sight (telling us p) ≡ blind
   told_blind [] p e = ap sight e
@@ -94,7 +103,10 @@ module _ (l x : ℕ) (IsSet IsDone : Type 0) where
 
   -- who spins for a list watches and updates what it did when it was to take it
   spun_goes : (a b : ℕ) (p : Place) → Passes (TakingList a ∷ p) (Spinning b ∷ p) × Passes (Spinning b ∷ p) (TakingList a ∷ p) × Passes (Spinning b ∷ p) (Spinning b ∷ p)
-  spun_goes a b (Waking k ∷ p) = (goes_on _ _ refl refl refl refl, goes_on _ _ refl refl refl refl, goes_on _ _ refl refl refl refl)
+  spun_goes a b (Waking k updated ∷ p) = (goes_on _ _ refl refl refl refl, goes_on _ _ refl refl refl refl, goes_on _ _ refl refl refl refl)
+  spun_goes a b (Dequeueing k w ∷ VarLeaving old c ∷ p) = (goes_on _ _ refl refl refl refl, goes_on _ _ refl refl refl refl, goes_on _ _ refl refl refl refl)
+  spun_goes a b (Dequeueing k w ∷ []) = (rests _ _ refl refl, rests _ _ refl refl, rests _ _ refl refl)
+  spun_goes a b (Dequeueing k w ∷ f ∷ p) = (rests _ _ refl refl, rests _ _ refl refl, rests _ _ refl refl)
   spun_goes a b (Comparing k old ∷ VarQueued j older ∷ p) = (goes_on _ _ refl refl refl refl, goes_on _ _ refl refl refl refl, goes_on _ _ refl refl refl refl)
   spun_goes a b (Comparing k old ∷ []) = (rests _ _ refl refl, rests _ _ refl refl, rests _ _ refl refl)
   spun_goes a b (Comparing k old ∷ f ∷ p) = (rests _ _ refl refl, rests _ _ refl refl, rests _ _ refl refl)
@@ -108,7 +120,7 @@ module _ (l x : ℕ) (IsSet IsDone : Type 0) where
       by_word : (b : Bool) → Passes (Spinning j ∷ p) (cond b (TakingList j ∷ p) (Spinning j ∷ p))
       by_word true = (spun_goes j j p).1
       by_word false = (spun_goes j j p).2
-  loaded_goes k n (Marking j found marked [] ∷ p) ok = goes_on _ _ refl refl refl refl
+  loaded_goes k n (Marking j updated found marked [] ∷ p) ok = goes_on _ _ refl refl refl refl
   loaded_goes k n p ok = absurd ok
 
   -- an attempt is granted, refused or tried again
@@ -134,16 +146,16 @@ module _ (l x : ℕ) (IsSet IsDone : Type 0) where
 
   -- a release: where it calls for no wake, an update of its lock is done
   pub let_go_goes : (b : Option Call) (k word : ℕ) (v : View) → PlaceFits v.holds v.surplus v.place → releasing b v.place ≡ [] → BeginsRelease k b v → (k ≡ l → HoldsAlone v.holds k → calls_for_wake word ≡ false → IsDone)
-      → Passes v.place (let_go k word (releasing b v.place))
-  let_go_goes (Some c) k word v fits none ok done = begun_goes v.place (let_go k word v.place) none (by_call (calls_for_wake word))
+      → Passes v.place (let_go b k word (releasing b v.place))
+  let_go_goes (Some c) k word v fits none ok done = begun_goes v.place (let_go (Some c) k word v.place) none (by_call (calls_for_wake word))
     where
-      by_call : (c : Bool) → sight (cond c (TakingList k ∷ Waking k ∷ v.place) v.place) ≡ blind
+      by_call : (c : Bool) → sight (cond c (TakingList k ∷ Waking k false ∷ v.place) v.place) ≡ blind
       by_call true = refl
       by_call false = ap sight none
-  let_go_goes None k word v fits none ok done = let at_top = top_is v.place (Releasing k) ok in subst (λ (p : Place). Passes p (let_go k word (outer v.place))) (sym at_top)
+  let_go_goes None k word v fits none ok done = let at_top = top_is v.place (Releasing k) ok in subst (λ (p : Place). Passes p (let_go None k word (outer v.place))) (sym at_top)
       (by_call (calls_for_wake word) (λ is. done is (subst (PlaceFits v.holds v.surplus) at_top fits).0))
     where
-      by_call : (c : Bool) → (k ≡ l → c ≡ false → IsDone) → Passes (Releasing k ∷ outer v.place) (cond c (TakingList k ∷ Waking k ∷ outer v.place) (outer v.place))
+      by_call : (c : Bool) → (k ≡ l → c ≡ false → IsDone) → Passes (Releasing k ∷ outer v.place) (cond c (TakingList k ∷ Waking k true ∷ outer v.place) (outer v.place))
       by_call true finished = goes_on _ _ refl refl refl refl
       by_call false finished = turns_off _ _ (ap sight none) (λ is. inr (finished (cc) refl))
 
@@ -163,8 +175,8 @@ module _ (l x : ℕ) (IsSet IsDone : Type 0) where
       by_word false = rests _ _ refl refl
   looked_on_goes holds s k n (Peeking j old ∷ VarQueued i older ∷ p) ok fits = by_word (is_free mode.Shared n)
     where
-      by_word : (b : Bool) → Passes (Peeking j old ∷ VarQueued i older ∷ p) (cond b (TakingList i ∷ Dequeueing i want.UntilFree ∷ GivingBack ∷ p) (TakingList j ∷ Comparing j old ∷ VarQueued i older ∷ p))
-      by_word true = rests _ _ refl refl
+      by_word : (b : Bool) → Passes (Peeking j old ∷ VarQueued i older ∷ p) (cond b (TakingList i ∷ Dequeueing i want.UntilFree ∷ VarLeaving older false ∷ p) (TakingList j ∷ Comparing j old ∷ VarQueued i older ∷ p))
+      by_word true = goes_on _ _ (same_watch i j older old fits.1.0 fits.1.1) refl refl refl
       by_word false = goes_on _ _ refl refl refl refl
   looked_on_goes holds s k n (Peeking j old ∷ p) ok fits = absurd fits.1
   looked_on_goes holds s k n p ok fits = absurd ok
@@ -191,8 +203,10 @@ module _ (l x : ℕ) (IsSet IsDone : Type 0) where
   -- the list is taken in hand, or isn't
   pub taken_goes : (holds : List Hold) (s k : ℕ) (found : List Waiter) (f : Frame) (p : Place) → MayTake k (f ∷ p) → PlaceFits holds s (f ∷ p) → (b : Bool) → Passes (f ∷ p) (cond b (in_hand found p) (Spinning k ∷ p))
   taken_goes holds s k found (TakingList j) (Queueing i w ∷ p) ok fits true = rests _ _ refl refl
-  taken_goes holds s k found (TakingList j) (Dequeueing i w ∷ p) ok fits true = rests _ _ refl refl
-  taken_goes holds s k found (TakingList j) (Waking i ∷ p) ok fits true = goes_on _ _ refl refl refl refl
+  taken_goes holds s k found (TakingList j) (Dequeueing i w ∷ GivingBack ∷ p) ok fits true = rests _ _ refl refl
+  taken_goes holds s k found (TakingList j) (Dequeueing i w ∷ VarLeaving old c ∷ p) ok fits true = goes_on _ _ refl refl refl refl
+  taken_goes holds s k found (TakingList j) (Dequeueing i w ∷ p) ok fits true = absurd fits.2
+  taken_goes holds s k found (TakingList j) (Waking i updated ∷ p) ok fits true = goes_on _ _ refl refl refl refl
   taken_goes holds s k found (TakingList j) (Comparing i old ∷ VarUnqueued a older ∷ p) ok fits true = rests _ _ refl refl
   taken_goes holds s k found (TakingList j) (Comparing i old ∷ VarQueued a older ∷ p) ok fits true = goes_on _ _ refl refl refl refl
   taken_goes holds s k found (TakingList j) (Comparing i old ∷ p) ok fits true = absurd fits.2
@@ -209,11 +223,11 @@ module _ (l x : ℕ) (IsSet IsDone : Type 0) where
     updates = λ is. absurd (let none : None ≡ Some l = sym (ap updates_at e) ∙ is in cc);
   }
 
-  pub taking_goes : (b : Option Call) (k : ℕ) (v : View) (q : Place) → BeginsTaking k b v → Passes (taking b v.place) q → Passes v.place q
-  taking_goes (Some (call.UpdateVar j y)) k v q ok goes = from_idle v.place ok.1 (TakingList j ∷ Storing j y false ∷ v.place) q refl goes
-  taking_goes (Some (call.ReleaseClearVar j y)) k v q ok goes = from_idle v.place ok.1 (TakingList j ∷ Storing j y true ∷ v.place) q refl goes
-  taking_goes (Some c) k v q ok goes = absurd ok
-  taking_goes None k v q ok goes = goes
+  pub taking_goes : (lawful : List ℕ → Type 0) (b : Option Call) (k : ℕ) (v : View) (q : Place) → BeginsTaking lawful k b v → Passes (taking b v.place) q → Passes v.place q
+  taking_goes lawful (Some (call.UpdateVar j y)) k v q ok goes = from_idle v.place ok.1 (TakingList j ∷ Storing j y false ∷ v.place) q refl goes
+  taking_goes lawful (Some (call.ReleaseClearVar j y)) k v q ok goes = from_idle v.place ok.1 (TakingList j ∷ Storing j y true ∷ v.place) q refl goes
+  taking_goes lawful (Some c) k v q ok goes = absurd ok
+  taking_goes lawful None k v q ok goes = goes
 
   -- the list goes home: an update that called those who wait is done; and who read the old value sleeps for it
   pub sent_goes : (holds : List Hold) (s k own : ℕ) (clears : Bool) (p : Place) → MaySendHome k clears own p → PlaceFits holds s p → ((found marked : List Waiter) → k ≡ l → p ≡ Calling k found marked [] ∷ outer p → IsDone) → Passes p (sent_home s p)
@@ -229,17 +243,14 @@ module _ (l x : ℕ) (IsSet IsDone : Type 0) where
       by_value false = rests _ _ (resumed_blind s p fits.1.2) refl
   sent_goes holds s k own clears (Returning j old found n ∷ VarQueued i older ∷ p) ok fits done = by_value (eqb n old) refl
     where
-      same : (a b c d : ℕ) → a ≡ b → c ≡ d → watch_of a c ≡ watch_of b d
-      same a b c d e f = λ h. watch_of (e h) (f h)
-
-      by_value : (b : Bool) → eqb n old ≡ b → Passes (Returning j old found n ∷ VarQueued i older ∷ p) (cond b (on_conflict (VarQueued i older ∷ p)) (on_outcome s (VarQueued i older ∷ p)))
+      by_value : (b : Bool) → eqb n old ≡ b → Passes (Returning j old found n ∷ VarQueued i older ∷ p) (cond b (on_conflict (VarQueued i older ∷ p)) (on_outcome true s (VarQueued i older ∷ p)))
       by_value true e = record {
-        watches = λ value is. inl (same j i old older (sym fits.1.0) (sym fits.1.1) ∙ is);
-        sleeps = λ value is. inr (same j i n older (sym fits.1.0) (eqb-true n old e ∙ sym fits.1.1) ∙ is);
+        watches = λ value is. inl (same_watch j i old older (sym fits.1.0) (sym fits.1.1) ∙ is);
+        sleeps = λ value is. inr (same_watch j i n older (sym fits.1.0) (eqb-true n old e ∙ sym fits.1.1) ∙ is);
         reads = λ n is. absurd (cc);
         updates = λ is. absurd (cc);
       }
-      by_value false e = rests _ _ refl refl
+      by_value false e = goes_on _ _ (same_watch i j older old fits.1.0 fits.1.1) refl refl refl
   sent_goes holds s k own clears (Returning j old found n ∷ p) ok fits done = absurd fits.1
   sent_goes holds s k own clears (Calling j found marked [] ∷ p) ok fits done = turns_off _ _ (told_blind marked p fits.3) (λ is. inr (done found marked (sym ok.0 ∙ (cc)) (ap (λ (i : ℕ). Calling i found marked [] ∷ p) ok.0)))
   sent_goes holds s k own clears (Unhanding j found ∷ p) ok fits done = goes_on _ _ refl refl refl refl
@@ -251,14 +262,16 @@ module _ (l x : ℕ) (IsSet IsDone : Type 0) where
 
   pub stored_goes : (holds : List Hold) (s q y : ℕ) (own : Option ℕ) (p : Place) → MayStore q y own p → PlaceFits holds s p → Passes p (stored s p)
   stored_goes holds s q y own (Announcing k w found ∷ p) ok fits = rests _ _ refl refl
-  stored_goes holds s q y own (Withdrawing ∷ p) ok fits = rests _ _ (left_blind s p fits) refl
-  stored_goes holds s q y own (Marking k found marked (u ∷ us) ∷ p) ok fits = goes_on _ _ refl refl refl refl
+  stored_goes holds s q y own (Withdrawing ∷ p) ok fits = rests _ _ (left_blind s want.UntilFree p fits) refl
+  stored_goes holds s q y own (Marking k updated found marked (u ∷ us) ∷ p) ok fits = goes_on _ _ refl refl refl refl
   stored_goes holds s q y own (Calling k found marked (u ∷ us) ∷ p) ok fits = goes_on _ _ refl refl refl refl
   stored_goes holds s q y own (Clearing (u ∷ us) ∷ p) ok fits = rests _ _ refl refl
   stored_goes holds s q y own p ok fits = absurd ok
 
   pub reread_goes : (holds : List Hold) (s n : ℕ) (p : Place) → MayReread p → PlaceFits holds s p → Passes p (reread s n p)
-  reread_goes holds s n (Checking k w found ∷ p) ok fits = rests _ _ refl refl
+  reread_goes holds s n (Checking k w found ∷ GivingBack ∷ p) ok fits = rests _ _ refl refl
+  reread_goes holds s n (Checking k w found ∷ VarLeaving old c ∷ p) ok fits = goes_on _ _ refl refl refl refl
+  reread_goes holds s n (Checking k w found ∷ p) ok fits = absurd fits.1
   reread_goes holds s n (Sleeping k w a ∷ p) ok fits = by_field (eqb n 0)
     where
       slept : (b : Bool) (q : Place) → FollowsSleep holds k w b q → sight (resumed s q) ≡ blind
@@ -266,6 +279,7 @@ module _ (l x : ℕ) (IsSet IsDone : Type 0) where
       slept false (GivingBack ∷ q) e = resumed_blind s q e.1
       slept false (Peeking j old ∷ VarUnqueued i older ∷ q) e = refl
       slept true (GivingBack ∷ q) e = resumed_blind s q e
+      slept true (VarLeaving old c ∷ q) e = resumed_blind s q e.1
       slept b q e = absurd e
 
       by_field : (b : Bool) → Passes (Sleeping k w a ∷ p) (cond b (resumed s p) (Looking ∷ Sleeping k w a ∷ p))
@@ -275,11 +289,11 @@ module _ (l x : ℕ) (IsSet IsDone : Type 0) where
 
   -- the exchange of a wake, with which an update of its lock is done; or one that missed
   pub detached_goes : (holds : List Hold) (s k w to n : ℕ) (p : Place) → MayDetach k w to p → PlaceFits holds s p → (k ≡ l → IsDone) → Passes p (detached true n p)
-  detached_goes holds s k w to n (Detaching j found word ∷ p) ok fits done = turns_off _ _ (told_blind (taken_from found) p fits.2) (λ is. inr (done (sym ok.0 ∙ (cc))))
+  detached_goes holds s k w to n (Detaching j updated found word ∷ p) ok fits done = turns_off _ _ (told_blind (taken_from found) p fits.2) (λ is. inr (done (sym ok.0 ∙ updated_lock updated j l is)))
   detached_goes holds s k w to n p ok fits done = absurd ok
 
   pub missed_goes : (k w to n : ℕ) (p : Place) → MayDetach k w to p → Passes p (detached false n p)
-  missed_goes k w to n (Detaching j found word ∷ p) ok = goes_on _ _ refl refl refl refl
+  missed_goes k w to n (Detaching j updated found word ∷ p) ok = goes_on _ _ refl refl refl refl
   missed_goes k w to n p ok = absurd ok
 
   pub posted_goes : (holds : List Hold) (s q : ℕ) (own : Option ℕ) (p : Place) → Owes q own p → PlaceFits holds s p → Passes p (posted (surplus_posted p s) p)
@@ -340,6 +354,10 @@ module _ (holds : List Hold) (l old : ℕ) where
   watches_queued s (Spinning k ∷ Comparing i value ∷ VarQueued j older ∷ p) fits e = until_free j l (fits.2.0 ∙ (sym fits.0 ∙ ap lock_watched e))
   watches_queued s (Reading k value found ∷ VarQueued j older ∷ p) fits e = until_free j l (fits.1.0 ∙ ap lock_watched e)
   watches_queued s (Returning k value found n ∷ VarQueued j older ∷ p) fits e = until_free j l (fits.1.0 ∙ ap lock_watched e)
+  watches_queued s (TakingList k ∷ Dequeueing i w ∷ VarLeaving value c ∷ p) fits e = ap (entry_of i) fits.2.0 ∙ until_free i l (ap lock_watched e)
+  watches_queued s (Spinning k ∷ Dequeueing i w ∷ VarLeaving value c ∷ p) fits e = ap (entry_of i) fits.2.0 ∙ until_free i l (ap lock_watched e)
+  watches_queued s (Checking k w found ∷ VarLeaving value c ∷ p) fits e = ap (entry_of k) fits.1.0 ∙ until_free k l (ap lock_watched e)
+  watches_queued s (Removing k w found here ∷ VarLeaving value c ∷ p) fits e = ap (entry_of k) fits.1.0 ∙ until_free k l (ap lock_watched e)
   watches_queued s (Looking ∷ p) fits e = down_queued s p fits e
   watches_queued s (Asleep ∷ p) fits e = down_queued s p fits e
   watches_queued s (Downing ∷ p) fits e = down_queued s p fits e

@@ -1,8 +1,8 @@
 -- Nobody sleeps for a lock that nobody holds, unless somebody releases it or answers for it.
-use Rattle.std.specs.Prelude.{◌≡◌, ◌⊎◌, ℕ, ◌≤◌, true, List, ◌∷◌, Option, None, Some, map}
+use Rattle.std.specs.Prelude.{◌≡◌, ◌⊎◌, ℕ, ◌≤◌, true, cond, List, ◌∷◌, Option, None, Some, map}
 use mathlib.Core.Option as maybe
 use lib.ListN.{get_elem?}
-use Rattle.lw_core.specs.declared.view.Frame.TheVariants.{Attempting, Trying, Unqueued, TakingList, Spinning, Looking, Asleep, Downing, Sleeping, Waking, Marking, Detaching, Comparing, Reading, Returning, VarQueued}
+use Rattle.lw_core.specs.declared.view.Frame.TheVariants.{Attempting, Trying, Unqueued, TakingList, Spinning, Dequeueing, Checking, Removing, Looking, Asleep, Downing, Sleeping, Waking, Marking, Detaching, Comparing, Reading, Returning, VarQueued, VarLeaving}
 use Rattle.lw_core.specs.declared.view.View.{View}
 use Rattle.lw_core.specs.Words.{Waiters, lock_part}
 use Rattle.lw_core.specs.Machine.{Place}
@@ -11,10 +11,10 @@ use Rattle.lw_core.specs.ReleaseOkIsOwed.{Answers}
 
 -- the lock that the seat is releasing, from the release that calls for a wake to the exchange of that wake; or for which it makes the attempt that follows its sleep
 abbrev pub attends_at : Place → Option ℕ
-attends_at (TakingList l ∷ Waking k ∷ p) = Some k
-attends_at (Spinning l ∷ Waking k ∷ p) = Some k
-attends_at (Marking l found marked rest ∷ p) = Some l
-attends_at (Detaching l found w ∷ p) = Some l
+attends_at (TakingList l ∷ Waking k updated ∷ p) = Some k
+attends_at (Spinning l ∷ Waking k updated ∷ p) = Some k
+attends_at (Marking l updated found marked rest ∷ p) = Some l
+attends_at (Detaching l updated found w ∷ p) = Some l
 attends_at (Attempting l m ∷ Unqueued k n u true ∷ p) = Some k
 attends_at (Trying l m w ∷ Unqueued k n u true ∷ p) = Some k
 attends_at p = None
@@ -23,7 +23,7 @@ abbrev pub lock_in : Option Entry → Option ℕ
 lock_in None = None
 lock_in (Some e) = Some e.lock
 
--- the lock for which the seat sleeps, or will sleep unless its variable changed: past the second attempt, which was refused, or the second look, which found an exclusive holder
+-- the lock whose list the seat is on past the second attempt, which was refused, or the second look, which found an exclusive holder: it sleeps, or compares the variable first, or leaves the list since the variable changed
 abbrev pub committed_at : Place → Option ℕ
 committed_at (Looking ∷ p) = lock_in (sleep_entry p)
 committed_at (Asleep ∷ p) = lock_in (sleep_entry p)
@@ -33,6 +33,10 @@ committed_at (TakingList l ∷ Comparing k old ∷ VarQueued j older ∷ p) = So
 committed_at (Spinning l ∷ Comparing k old ∷ VarQueued j older ∷ p) = Some j
 committed_at (Reading l old found ∷ VarQueued j older ∷ p) = Some j
 committed_at (Returning l old found n ∷ VarQueued j older ∷ p) = Some j
+committed_at (TakingList l ∷ Dequeueing j w ∷ VarLeaving old conflicted ∷ p) = cond conflicted (Some j) None
+committed_at (Spinning l ∷ Dequeueing j w ∷ VarLeaving old conflicted ∷ p) = cond conflicted (Some j) None
+committed_at (Checking l w found ∷ VarLeaving old conflicted ∷ p) = cond conflicted (Some l) None
+committed_at (Removing l w found here ∷ VarLeaving old conflicted ∷ p) = cond conflicted (Some l) None
 committed_at p = None
 
 -- a seat attends to the lock l

@@ -10,7 +10,7 @@ use Rattle.lw_core.specs.declared.step.GuardOp.TheVariants as guard
 use Rattle.lw_core.specs.declared.step.LwStep.{LwStep}
 use Rattle.lw_core.specs.declared.step.LwStep.TheVariants.{Load, Grant, Refuse, Sub, Peek, Guard, Lock, VarLoad, VarStore, Unlock, Flag, WaitStore, WaitLoad, Wake, Post, Look, Down, SetReleaseOk}
 use Rattle.lw_core.specs.declared.view.Frame.{Frame}
-use Rattle.lw_core.specs.declared.view.Frame.TheVariants.{Attempting, Trying, Unqueued, Queued, TakingList, Spinning, Queueing, Flagging, Announcing, Appending, Dequeueing, Checking, Removing, Withdrawing, Answering, Looking, Asleep, Downing, Sleeping, Woken, GivingBack, Waking, Marking, Detaching, Clearing, Posting, Peeking, Comparing, Reading, Returning, VarUnqueued, Allowing, VarQueued, Storing, Publishing, Calling, Unhanding, Releasing}
+use Rattle.lw_core.specs.declared.view.Frame.TheVariants.{Attempting, Trying, Unqueued, Queued, TakingList, Spinning, Queueing, Flagging, Announcing, Appending, Dequeueing, Checking, Removing, Withdrawing, Answering, Looking, Asleep, Downing, Sleeping, Woken, GivingBack, Waking, Marking, Detaching, Clearing, Posting, Peeking, Comparing, Reading, Returning, VarUnqueued, Allowing, VarQueued, VarLeaving, Storing, Publishing, Calling, Unhanding, Releasing}
 use Rattle.lw_core.specs.declared.view.Made.{Made}
 use Rattle.lw_core.specs.declared.view.Hold.{Hold}
 use Rattle.lw_core.specs.declared.view.Size.{Size}
@@ -207,6 +207,7 @@ want_of Exclusive = want.Exclusive
 -- PLACES. What is given back is given back where there is a surplus; else the call goes on behind it
 abbrev pub resumed : ℕ → Place → Place
 resumed surplus (GivingBack ∷ p) = cond (surplus == 0) p (GivingBack ∷ p)
+resumed surplus (VarLeaving old conflicted ∷ p) = cond (surplus == 0) p (GivingBack ∷ p)
 resumed surplus p = p
 
 -- after an attempt that was granted: who queued for it leaves the list. What was too much is given back
@@ -234,14 +235,14 @@ loaded (Some (call.AcquireOrWait l m)) n p = Trying l m n ∷ Unqueued l m want.
 loaded (Some c) n p = p
 loaded None n (Attempting l m ∷ p) = Trying l m n ∷ p
 loaded None n (Spinning l ∷ p) = cond (has_flag locked n == 0) (TakingList l ∷ p) (Spinning l ∷ p)
-loaded None n (Marking l found marked [] ∷ p) = Detaching l found n ∷ p
+loaded None n (Marking l updated found marked [] ∷ p) = Detaching l updated found n ∷ p
 loaded None n p = p
 
--- a wait for the variable has an outcome: who queued leaves the list. What was too much is given back
-abbrev pub on_outcome : ℕ → Place → Place
-on_outcome surplus (VarUnqueued l old ∷ p) = resumed surplus (GivingBack ∷ p)
-on_outcome surplus (VarQueued l old ∷ p) = TakingList l ∷ Dequeueing l want.UntilFree ∷ GivingBack ∷ p
-on_outcome surplus p = p
+-- a wait for the variable has an outcome, after a look that found an exclusive holder or none: who queued leaves the list. What was too much is given back
+abbrev pub on_outcome : Bool → ℕ → Place → Place
+on_outcome conflicted surplus (VarUnqueued l old ∷ p) = resumed surplus (GivingBack ∷ p)
+on_outcome conflicted surplus (VarQueued l old ∷ p) = TakingList l ∷ Dequeueing l want.UntilFree ∷ VarLeaving old conflicted ∷ p
+on_outcome conflicted surplus p = p
 
 -- it has none yet: the backend queues, sets RELEASE_OK and looks again; who queued sleeps, and begins anew
 abbrev pub on_conflict : Place → Place
@@ -252,7 +253,7 @@ on_conflict p = p
 -- a look at the lock that found n: where it has an exclusive holder, the variable is to be read with the list in hand
 abbrev pub peeked : Option Call → ℕ → ℕ → Place → Place
 peeked (Some (call.WaitForVar l old)) surplus n p = cond (is_free Shared n) p (TakingList l ∷ Comparing l old ∷ VarUnqueued l old ∷ p)
-peeked None surplus n (Peeking l old ∷ p) = cond (is_free Shared n) (on_outcome surplus p) (TakingList l ∷ Comparing l old ∷ p)
+peeked None surplus n (Peeking l old ∷ p) = cond (is_free Shared n) (on_outcome false surplus p) (TakingList l ∷ Comparing l old ∷ p)
 peeked b surplus n p = p
 
 -- a release that left this word wakes where somebody waits, a wake may be, and nobody holds the lock
@@ -264,8 +265,14 @@ abbrev pub releasing : Option Call → Place → Place
 releasing (Some c) p = p
 releasing None p = outer p
 
-abbrev pub let_go : ℕ → ℕ → Place → Place
-let_go l word p = cond (calls_for_wake word) (TakingList l ∷ Waking l ∷ p) p
+-- a release that is part of another call comes after that call's store of the variable
+abbrev pub after_store : Option Call → Bool
+after_store (Some c) = false
+after_store None = true
+
+-- a release that left this word
+abbrev pub let_go : Option Call → ℕ → ℕ → Place → Place
+let_go begins l word p = cond (calls_for_wake word) (TakingList l ∷ Waking l (after_store begins) ∷ p) p
 
 -- a call that begins by taking the list
 abbrev pub taking : Option Call → Place → Place
@@ -277,7 +284,7 @@ taking b p = p
 abbrev pub in_hand : List Waiter → Place → Place
 in_hand found (Queueing l w ∷ p) = Flagging l w found ∷ p
 in_hand found (Dequeueing l w ∷ p) = Checking l w found ∷ p
-in_hand found (Waking l ∷ p) = Marking l found [] (taken_from found) ∷ p
+in_hand found (Waking l updated ∷ p) = Marking l updated found [] (taken_from found) ∷ p
 in_hand found (Comparing l old ∷ p) = Reading l old found ∷ p
 in_hand found (Storing l x releases ∷ p) = Publishing l x found releases ∷ p
 in_hand found p = p
@@ -300,7 +307,7 @@ published p = p
 abbrev pub stored : ℕ → Place → Place
 stored surplus (Announcing l w found ∷ p) = Appending l w found ∷ p
 stored surplus (Withdrawing ∷ p) = resumed surplus p
-stored surplus (Marking l found marked (u ∷ us) ∷ p) = Marking l found (marked ++ u ∷ []) us ∷ p
+stored surplus (Marking l updated found marked (u ∷ us) ∷ p) = Marking l updated found (marked ++ u ∷ []) us ∷ p
 stored surplus (Calling l found marked (u ∷ us) ∷ p) = Calling l found (marked ++ u ∷ []) us ∷ p
 stored surplus (Clearing us ∷ p) = Posting us ∷ p
 stored surplus p = p
@@ -321,13 +328,13 @@ abbrev pub sent_home : ℕ → Place → Place
 sent_home surplus (Appending l w found ∷ p) = p
 sent_home surplus (Removing l w found true ∷ p) = Withdrawing ∷ p
 sent_home surplus (Removing l w found false ∷ p) = Answering l w ∷ Looking ∷ Sleeping l w true ∷ p
-sent_home surplus (Returning l old found n ∷ p) = cond (n == old) (on_conflict p) (on_outcome surplus p)
+sent_home surplus (Returning l old found n ∷ p) = cond (n == old) (on_conflict p) (on_outcome true surplus p)
 sent_home surplus (Calling l found marked [] ∷ p) = telling marked p
 sent_home surplus (Unhanding l found ∷ p) = Releasing l ∷ p
 sent_home surplus p = p
 
 abbrev pub detached : Bool → ℕ → Place → Place
-detached hit n (Detaching l found w ∷ p) = cond hit (telling (taken_from found) p) (Detaching l found n ∷ p)
+detached hit n (Detaching l updated found w ∷ p) = cond hit (telling (taken_from found) p) (Detaching l updated found n ∷ p)
 detached hit n p = p
 
 -- a semaphore was posted, when this surplus was left
@@ -388,7 +395,7 @@ abbrev pub next : LwStep → View → ℕ → List Waiter → View
 next (Load l begins) v n found = moved v (Load l begins) n (loaded begins n v.place)
 next (Grant l m w) v n found = cond (n == w) (gripped v (Grant l m w) l n (on_grant v.surplus (outer v.place)) (held m) (v.grants + 1)) (moved v (Grant l m w) n (Trying l m n ∷ outer v.place))
 next (Refuse l m w) v n found = moved v (Refuse l m w) n (cond (n == w) (on_refusal (outer v.place)) (Trying l m n ∷ outer v.place))
-next (Sub l begins) v n found = gripped v (Sub l begins) l n (let_go l (n - grant_held (mode_in l v)) (releasing begins v.place)) not_held v.grants
+next (Sub l begins) v n found = gripped v (Sub l begins) l n (let_go begins l (n - grant_held (mode_in l v)) (releasing begins v.place)) not_held v.grants
 next (Peek l begins) v n found = moved v (Peek l begins) n (peeked begins v.surplus n v.place)
 next (Guard l k o) v n found = gripped v (Guard l k o) l n v.place (guard_hold o (hold_in l v) k n) v.grants
 next (Lock l begins) v n found = moved v (Lock l begins) n (cond (has_flag locked n == 0) (in_hand found (outer (taking begins v.place))) (Spinning l ∷ outer (taking begins v.place)))
@@ -409,7 +416,7 @@ abbrev pub left_at : Place → ℕ → List Waiter
 left_at (Appending l w found ∷ p) own = joined_by (waiter own w) found
 left_at (Removing l w found true ∷ p) own = without own found
 left_at (Removing l w found false ∷ p) own = found
-left_at (Detaching l found w ∷ p) own = kept_from found
+left_at (Detaching l updated found w ∷ p) own = kept_from found
 left_at (Returning l old found n ∷ p) own = found
 left_at (Calling l found marked [] ∷ p) own = lockers_from found
 left_at (Unhanding l found ∷ p) own = found
@@ -463,7 +470,7 @@ BeginsLook l b v = ⊥
 abbrev pub MayLoad : ℕ → Place → Type 0
 MayLoad l (Attempting k m ∷ p) = k ≡ l
 MayLoad l (Spinning k ∷ p) = k ≡ l
-MayLoad l (Marking k found marked [] ∷ p) = k ≡ l
+MayLoad l (Marking k updated found marked [] ∷ p) = k ≡ l
 MayLoad l p = ⊥
 
 abbrev pub BeginsLoad : ℕ → Option Call → View → Type 0
@@ -473,16 +480,17 @@ BeginsLoad l (Some c) v = BeginsAttempt l (Some c) v
 abbrev pub MayTake : ℕ → Place → Type 0
 MayTake l (TakingList k ∷ Queueing j w ∷ p) = k ≡ l
 MayTake l (TakingList k ∷ Dequeueing j w ∷ p) = k ≡ l
-MayTake l (TakingList k ∷ Waking j ∷ p) = k ≡ l
+MayTake l (TakingList k ∷ Waking j updated ∷ p) = k ≡ l
 MayTake l (TakingList k ∷ Comparing j old ∷ p) = k ≡ l
 MayTake l (TakingList k ∷ Storing j x releases ∷ p) = k ≡ l
 MayTake l p = ⊥
 
-abbrev pub BeginsTaking : ℕ → Option Call → View → Type 0
-BeginsTaking l (Some (call.UpdateVar k x)) v = (k ≡ l) × (v.place ≡ []) × (mode_in l v ≡ Some Exclusive)
-BeginsTaking l (Some (call.ReleaseClearVar k x)) v = (k ≡ l) × (v.place ≡ []) × (mode_in l v ≡ Some Exclusive)
-BeginsTaking l (Some c) v = ⊥
-BeginsTaking l None v = MayTake l v.place
+-- who will let go of the lock leaves lawful words, as at a release
+abbrev pub BeginsTaking : (List ℕ → Type 0) → ℕ → Option Call → View → Type 0
+BeginsTaking lawful l (Some (call.UpdateVar k x)) v = (k ≡ l) × (v.place ≡ []) × (mode_in l v ≡ Some Exclusive)
+BeginsTaking lawful l (Some (call.ReleaseClearVar k x)) v = (k ≡ l) × (v.place ≡ []) × (mode_in l v ≡ Some Exclusive) × LeavesLawful lawful (hold_in l v)
+BeginsTaking lawful l (Some c) v = ⊥
+BeginsTaking lawful l None v = MayTake l v.place
 
 abbrev pub MayReadVar : ℕ → Place → Type 0
 MayReadVar l (Reading k old found ∷ p) = k ≡ l
@@ -507,7 +515,7 @@ MayFlag l p = ⊥
 abbrev pub MayStore : ℕ → ℕ → Option ℕ → Place → Type 0
 MayStore q x own (Announcing l w found ∷ p) = (own ≡ Some q) × (x ≡ 1)
 MayStore q x own (Withdrawing ∷ p) = (own ≡ Some q) × (x ≡ 0)
-MayStore q x own (Marking l found marked (u ∷ us) ∷ p) = (u.proc ≡ q) × (x ≡ 2)
+MayStore q x own (Marking l updated found marked (u ∷ us) ∷ p) = (u.proc ≡ q) × (x ≡ 2)
 MayStore q x own (Calling l found marked (u ∷ us) ∷ p) = (u.proc ≡ q) × (x ≡ 2)
 MayStore q x own (Clearing (u ∷ us) ∷ p) = (u.proc ≡ q) × (x ≡ 0)
 MayStore q x own p = ⊥
@@ -518,7 +526,7 @@ MayReread (Sleeping l w answered ∷ p) = ⊤
 MayReread p = ⊥
 
 abbrev pub MayDetach : ℕ → ℕ → ℕ → Place → Type 0
-MayDetach l w to (Detaching k found word ∷ p) = (k ≡ l) × (word ≡ w) × (to ≡ woken_word (taken_from found) (kept_from found) w)
+MayDetach l w to (Detaching k updated found word ∷ p) = (k ≡ l) × (word ≡ w) × (to ≡ woken_word (taken_from found) (kept_from found) w)
 MayDetach l w to p = ⊥
 
 -- the seat owes the backend q a wake, or q is its own number and it has wakes to give back
@@ -554,7 +562,7 @@ Allowed lawful (Refuse l m w) v = (top v.place ≡ Some (Trying l m w)) × (is_f
 Allowed lawful (Sub l begins) v = BeginsRelease l begins v × LeavesLawful (lawful l) (hold_in l v)
 Allowed lawful (Peek l begins) v = BeginsLook l begins v
 Allowed lawful (Guard l k o) v = (k < 4) × (v.place ≡ []) × MayGuard o (mode_in l v)
-Allowed lawful (Lock l begins) v = BeginsTaking l begins v
+Allowed lawful (Lock l begins) v = BeginsTaking (lawful l) l begins v
 Allowed lawful (VarLoad l) v = MayReadVar l v.place
 Allowed lawful (VarStore l x) v = MayStoreVar l x v.place
 Allowed lawful (Unlock l clears) v = MaySendHome l clears (number_of v.own) v.place

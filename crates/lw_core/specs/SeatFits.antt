@@ -4,7 +4,7 @@ use mathlib.Core.Option as maybe
 use lib.ListN.{get_elem?}
 use Rattle.proc_table.specs.declared.Mode.{Mode}
 use Rattle.proc_table.specs.declared.Mode.TheVariants.{Exclusive}
-use Rattle.lw_core.specs.declared.view.Frame.TheVariants.{Attempting, Trying, Unqueued, Queued, TakingList, Spinning, Queueing, Flagging, Announcing, Appending, Dequeueing, Checking, Removing, Withdrawing, Answering, Looking, Asleep, Downing, Sleeping, Woken, GivingBack, Waking, Marking, Detaching, Clearing, Posting, Peeking, Comparing, Reading, Returning, VarUnqueued, Allowing, VarQueued, Storing, Publishing, Calling, Unhanding, Releasing}
+use Rattle.lw_core.specs.declared.view.Frame.TheVariants.{Attempting, Trying, Unqueued, Queued, TakingList, Spinning, Queueing, Flagging, Announcing, Appending, Dequeueing, Checking, Removing, Withdrawing, Answering, Looking, Asleep, Downing, Sleeping, Woken, GivingBack, Waking, Marking, Detaching, Clearing, Posting, Peeking, Comparing, Reading, Returning, VarUnqueued, Allowing, VarQueued, VarLeaving, Storing, Publishing, Calling, Unhanding, Releasing}
 use Rattle.lw_core.specs.declared.view.Hold.{Hold}
 use Rattle.lw_core.specs.declared.view.Want.{Want}
 use Rattle.lw_core.specs.declared.view.Want.TheVariants as want
@@ -55,10 +55,11 @@ FollowsLook l old (VarUnqueued k older ∷ p) = (k ≡ l) × (older ≡ old) × 
 FollowsLook l old (VarQueued k older ∷ p) = (k ≡ l) × (older ≡ old) × (p ≡ [])
 FollowsLook l old p = ⊥
 
--- behind leaving a list: what is too much is given back
-abbrev pub FollowsLeaving : Place → Type 0
-FollowsLeaving (GivingBack ∷ p) = p ≡ []
-FollowsLeaving p = ⊥
+-- behind leaving a list on which it queued for this: what is too much is given back. In a wait for the variable it queued until the lock is free
+abbrev pub FollowsLeaving : Want → Place → Type 0
+FollowsLeaving w (GivingBack ∷ p) = p ≡ []
+FollowsLeaving w (VarLeaving old conflicted ∷ p) = (w ≡ want.UntilFree) × (p ≡ [])
+FollowsLeaving w p = ⊥
 
 -- behind a sleep: another attempt, or the end of the call
 abbrev pub FollowsSleep : List Hold → ℕ → Want → Bool → Place → Type 0
@@ -66,6 +67,7 @@ FollowsSleep holds l w false (Woken k m ∷ p) = (k ≡ l) × (w ≡ want_of m) 
 FollowsSleep holds l w false (GivingBack ∷ p) = (w ≡ want.UntilFree) × (p ≡ [])
 FollowsSleep holds l w false (Peeking k old ∷ VarUnqueued j older ∷ p) = (k ≡ l) × (j ≡ l) × (older ≡ old) × (w ≡ want.UntilFree) × IsFreeOf holds l × (p ≡ [])
 FollowsSleep holds l w true (GivingBack ∷ p) = p ≡ []
+FollowsSleep holds l w true (VarLeaving old conflicted ∷ p) = (w ≡ want.UntilFree) × (p ≡ [])
 FollowsSleep holds l w answered p = ⊥
 
 -- behind the semaphore: nothing, or a sleep
@@ -77,8 +79,8 @@ FollowsDown holds surplus p = ⊥
 -- what the list of l is taken for
 abbrev pub FollowsTaking : List Hold → ℕ → ℕ → Place → Type 0
 FollowsTaking holds l surplus (Queueing k w ∷ p) = (k ≡ l) × IsFreeOf holds l × FollowsQueueing l w p
-FollowsTaking holds l surplus (Dequeueing k w ∷ p) = (k ≡ l) × HoldsAs holds l w × FollowsLeaving p
-FollowsTaking holds l surplus (Waking k ∷ p) = (k ≡ l) × (surplus ≡ 0) × (p ≡ [])
+FollowsTaking holds l surplus (Dequeueing k w ∷ p) = (k ≡ l) × HoldsAs holds l w × FollowsLeaving w p
+FollowsTaking holds l surplus (Waking k updated ∷ p) = (k ≡ l) × (surplus ≡ 0) × (p ≡ [])
 FollowsTaking holds l surplus (Comparing k old ∷ p) = (k ≡ l) × IsFreeOf holds l × FollowsLook l old p
 FollowsTaking holds l surplus (Storing k x releases ∷ p) = (k ≡ l) × (surplus ≡ 0) × HoldsAlone holds l × (p ≡ [])
 FollowsTaking holds l surplus p = ⊥
@@ -94,18 +96,18 @@ PlaceFits holds surplus (Spinning l ∷ p) = FollowsTaking holds l surplus p
 PlaceFits holds surplus (Flagging l w found ∷ p) = IsFreeOf holds l × FollowsQueueing l w p
 PlaceFits holds surplus (Announcing l w found ∷ p) = IsFreeOf holds l × FollowsQueueing l w p
 PlaceFits holds surplus (Appending l w found ∷ p) = IsFreeOf holds l × FollowsQueueing l w p
-PlaceFits holds surplus (Checking l w found ∷ p) = HoldsAs holds l w × FollowsLeaving p
-PlaceFits holds surplus (Removing l w found here ∷ p) = HoldsAs holds l w × FollowsLeaving p
-PlaceFits holds surplus (Withdrawing ∷ p) = FollowsLeaving p
-PlaceFits holds surplus (Answering l w ∷ Looking ∷ Sleeping k u true ∷ p) = (k ≡ l) × (u ≡ w) × HoldsAs holds l w × FollowsLeaving p
+PlaceFits holds surplus (Checking l w found ∷ p) = HoldsAs holds l w × FollowsLeaving w p
+PlaceFits holds surplus (Removing l w found here ∷ p) = HoldsAs holds l w × FollowsLeaving w p
+PlaceFits holds surplus (Withdrawing ∷ p) = FollowsLeaving want.UntilFree p
+PlaceFits holds surplus (Answering l w ∷ Looking ∷ Sleeping k u true ∷ p) = (k ≡ l) × (u ≡ w) × HoldsAs holds l w × FollowsLeaving w p
 PlaceFits holds surplus (Looking ∷ p) = FollowsDown holds surplus p
 PlaceFits holds surplus (Asleep ∷ p) = FollowsDown holds surplus p
 PlaceFits holds surplus (Downing ∷ p) = FollowsDown holds surplus p
 PlaceFits holds surplus (Sleeping l w answered ∷ p) = FollowsSleep holds l w answered p
 PlaceFits holds surplus (Woken l m ∷ p) = IsFreeOf holds l × (p ≡ [])
 PlaceFits holds surplus (GivingBack ∷ p) = (0 < surplus) × (p ≡ [])
-PlaceFits holds surplus (Marking l found marked rest ∷ p) = (marked ++ rest ≡ taken_from found) × (surplus ≡ 0) × (p ≡ [])
-PlaceFits holds surplus (Detaching l found w ∷ p) = (w < 2 ^ 32) × (surplus ≡ 0) × (p ≡ [])
+PlaceFits holds surplus (Marking l updated found marked rest ∷ p) = (marked ++ rest ≡ taken_from found) × (surplus ≡ 0) × (p ≡ [])
+PlaceFits holds surplus (Detaching l updated found w ∷ p) = (w < 2 ^ 32) × (surplus ≡ 0) × (p ≡ [])
 PlaceFits holds surplus (Clearing (u ∷ us) ∷ p) = (surplus ≡ 0) × (p ≡ [])
 PlaceFits holds surplus (Posting (u ∷ us) ∷ p) = (surplus ≡ 0) × (p ≡ [])
 PlaceFits holds surplus (Peeking l old ∷ p) = IsFreeOf holds l × FollowsLook l old p

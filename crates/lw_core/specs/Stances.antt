@@ -58,8 +58,8 @@ hand_at (Announcing l w found ∷ p) = hand_of l found
 hand_at (Appending l w found ∷ p) = hand_of l found
 hand_at (Checking l w found ∷ p) = hand_of l found
 hand_at (Removing l w found here ∷ p) = hand_of l found
-hand_at (Marking l found marked rest ∷ p) = hand_of l found
-hand_at (Detaching l found w ∷ p) = hand_of l found
+hand_at (Marking l updated found marked rest ∷ p) = hand_of l found
+hand_at (Detaching l updated found w ∷ p) = hand_of l found
 hand_at (Reading l old found ∷ p) = hand_of l found
 hand_at (Returning l old found n ∷ p) = hand_of l found
 hand_at (Publishing l x found releases ∷ p) = hand_of l found
@@ -142,8 +142,8 @@ due_at (Woken l m ∷ p) = Some l
 due_at p = due_of (queued_at p)
 
 abbrev pub marked_at : Place → List Waiter
-marked_at (Marking l found marked rest ∷ p) = marked
-marked_at (Detaching l found w ∷ p) = taken_from found
+marked_at (Marking l updated found marked rest ∷ p) = marked
+marked_at (Detaching l updated found w ∷ p) = taken_from found
 marked_at (Calling l found marked rest ∷ p) = marked
 marked_at p = []
 

@@ -56,12 +56,13 @@ pub enum Frame {
     /// It will post its own semaphore, once for each wake that was not for it.
     GivingBack,
 
-    /// With the list in hand the backend will wake waiters.
-    Waking(LockNo),
+    /// With the list in hand the backend will wake waiters, after a release; the last field says
+    /// whether that call stored the lock's variable before. So do the next two frames.
+    Waking(LockNo, bool),
     /// It marks those that it takes, each by its waiting field: those marked, and those to mark.
-    Marking(LockNo, LinkedList<Waiter>, LinkedList<Waiter>, LinkedList<Waiter>),
+    Marking(LockNo, bool, LinkedList<Waiter>, LinkedList<Waiter>, LinkedList<Waiter>),
     /// It will exchange the state word that was found last, and send home who isn't taken.
-    Detaching(LockNo, LinkedList<Waiter>, u64),
+    Detaching(LockNo, bool, LinkedList<Waiter>, u64),
     /// It will store that the first of these doesn't wait any more, and then post its semaphore.
     Clearing(LinkedList<Waiter>),
     /// It will post the semaphore of the first of these.
@@ -81,6 +82,9 @@ pub enum Frame {
     Allowing(LockNo),
     /// What follows the comparison of a backend that queued.
     VarQueued(LockNo, u64),
+    /// What follows leaving the list where that has an outcome: the old value, and whether the last
+    /// look found an exclusive holder. Wakes that were not for it are given back.
+    VarLeaving(u64, bool),
 
     /// With the list in hand the holder will store the variable, to go on or to release the lock.
     Storing(LockNo, u64, bool),

@@ -32,9 +32,9 @@ told_one n o u us found other all v a b w told cleared posted =
     )
 
 -- those who are marked are on the list that was found
-pub marks_found : (b : Bool) (l : ℕ) (found marked rest : List Waiter) (p : Place) → found_at (marking b l found marked rest ∷ p) ≡ found
-marks_found true l found marked rest p = refl
-marks_found false l found marked rest p = refl
+pub marks_found : (b : Bool) (l : ℕ) (updated : Bool) (found marked rest : List Waiter) (p : Place) → found_at (marking b l updated found marked rest ∷ p) ≡ found
+marks_found true l updated found marked rest p = refl
+marks_found false l updated found marked rest p = refl
 
 -- the exchange was made in a call that began some steps before
 pub exchanged_before : (l : ℕ) (found : List Waiter) (v u w : View) → Exchanged l found u w → (more : List Made) → u.steps ≡ v.steps ++ more → Exchanged l found v w

@@ -4,7 +4,7 @@ use Rattle.lw_core.specs.declared.step.Call.{Call}
 use Rattle.lw_core.specs.declared.step.LwStep.{LwStep}
 use Rattle.lw_core.specs.declared.step.LwStep.TheVariants.{Sub, WaitStore, Wake, Post}
 use Rattle.lw_core.specs.declared.view.Frame.{Frame}
-use Rattle.lw_core.specs.declared.view.Frame.TheVariants.{Calling, Marking}
+use Rattle.lw_core.specs.declared.view.Frame.TheVariants.{TakingList, Waking, Calling, Marking}
 use Rattle.lw_core.specs.declared.view.Made.{Made}
 use Rattle.lw_core.specs.declared.view.View.{View}
 use Rattle.lw_core.specs.declared.view.Waiter.{Waiter}
@@ -22,10 +22,16 @@ abbrev pub updates_at : Place → Bool
 updates_at (Calling l found marked rest ∷ p) = true
 updates_at p = false
 
+-- the release before a wake came after a store of the lock's variable
+abbrev pub updated_at : Place → Bool
+updated_at (TakingList l ∷ Waking k updated ∷ p) = updated
+updated_at (Marking l updated found marked rest ∷ p) = updated
+updated_at p = false
+
 -- some of those who are taken off the list in hand are marked, and the rest is to be
-abbrev pub marking : Bool → ℕ → List Waiter → List Waiter → List Waiter → Frame
-marking true l found marked rest = Calling l found marked rest
-marking false l found marked rest = Marking l found marked rest
+abbrev pub marking : Bool → ℕ → Bool → List Waiter → List Waiter → List Waiter → Frame
+marking true l updated found marked rest = Calling l found marked rest
+marking false l updated found marked rest = Marking l updated found marked rest
 
 -- the state word after a wake that took somebody who wants the lock, or nobody who does: it is answered for, or the next release may wake
 abbrev pub answered_to : ℕ → Bool → ℕ

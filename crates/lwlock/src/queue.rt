@@ -34,7 +34,7 @@ pub fn take_list<G: Guarded, R: Wait>(
 )
     requires table { seat.old.table_id ≡ table.now.table_id }
     requires lock { lock < table.now.locks }
-    requires place { BeginsTaking lock begins seat.old.view }
+    requires place { BeginsTaking (G.lawful lock) lock begins seat.old.view }
     ensures table { (seat.new.table_id ≡ seat.old.table_id) × (seat.new.id ≡ seat.old.id) }
     ensures view { Went (in_hand seat.new.list (outer (taking begins seat.old.view.place))) seat.old.view seat.new.view }
     ensures list { TellsList (size_of table.now) seat.old.view seat.new.list }

@@ -6,7 +6,7 @@ ghost use Rattle.lw_core.specs.Machine.{BeginsRelease, LeavesLawful, calls_for_w
 ghost use Rattle.lw_core.specs.WaitLists.{AllBelow, has_locker, kept_from, same_want, taken_from};
 ghost use Rattle.lw_core.specs.Words.{grant_held};
 ghost use Rattle.lwlock.specs.Calls.{Released, Went};
-ghost use Rattle.lwlock.specs.Wakes.{Exchanged, WakesRightly, WentBy, WokenInCall, answered_to, found_at, marking, told_by, updates_at, woken_to};
+ghost use Rattle.lwlock.specs.Wakes.{Exchanged, WakesRightly, WentBy, WokenInCall, answered_to, found_at, marking, told_by, updated_at, updates_at, woken_to};
 
 use crate::attempt::{EXCLUSIVE, LOCK_MASK};
 use crate::queue::{LOCKED, take_list};
@@ -143,9 +143,9 @@ pub fn mark<G: Guarded>(
     requires table { seat.old.table_id ≡ table.now.table_id }
     requires few { table.now.procs ≤ 64 }
     requires taken { AllBelow table.now.procs taken.now.items }
-    requires place { seat.old.view.place ≡ marking (updates_at seat.old.view.place) lock (found_at seat.old.view.place) [] taken.now.items ∷ [] }
+    requires place { seat.old.view.place ≡ marking (updates_at seat.old.view.place) lock (updated_at seat.old.view.place) (found_at seat.old.view.place) [] taken.now.items ∷ [] }
     ensures table { (seat.new.table_id ≡ seat.old.table_id) × (seat.new.id ≡ seat.old.id) }
-    ensures view { Went (marking (updates_at seat.old.view.place) lock (found_at seat.old.view.place) taken.now.items [] ∷ []) seat.old.view seat.new.view }
+    ensures view { Went (marking (updates_at seat.old.view.place) lock (updated_at seat.old.view.place) (found_at seat.old.view.place) taken.now.items [] ∷ []) seat.old.view seat.new.view }
     ensures list { seat.new.list ≡ seat.old.list }
 {
     for waiter in taken.as_slice() {
@@ -163,7 +163,7 @@ fn detach<G: Guarded, R: Wait>(
 )
     requires table { seat.old.table_id ≡ table.now.table_id }
     requires lock { lock < table.now.locks }
-    requires place { seat.old.view.place ≡ Marking lock (found_at seat.old.view.place) (taken_from (found_at seat.old.view.place)) [] ∷ [] }
+    requires place { seat.old.view.place ≡ Marking lock (updated_at seat.old.view.place) (found_at seat.old.view.place) (taken_from (found_at seat.old.view.place)) [] ∷ [] }
     requires kept { seat.old.list ≡ kept_from (found_at seat.old.view.place) }
     requires locker { locker ≡ has_locker (taken_from (found_at seat.old.view.place)) }
     ensures table { (seat.new.table_id ≡ seat.old.table_id) × (seat.new.id ≡ seat.old.id) }
@@ -204,7 +204,7 @@ pub fn tell<G: Guarded>(table: &LwTable<G>, seat: &mut LwSeat, taken: &ArrayVec<
 fn wake<G: Guarded, R: Wait>(rt: &R, table: &LwTable<G>, seat: &mut LwSeat, lock: LockNo)
     requires table { seat.old.table_id ≡ table.now.table_id }
     requires lock { lock < table.now.locks }
-    requires place { seat.old.view.place ≡ TakingList lock ∷ Waking lock ∷ [] }
+    requires place { seat.old.view.place ≡ TakingList lock ∷ Waking lock (updated_at seat.old.view.place) ∷ [] }
     ensures table { (seat.new.table_id ≡ seat.old.table_id) × (seat.new.id ≡ seat.old.id) }
     ensures view { Went [] seat.old.view seat.new.view }
     ensures woken { WokenInCall lock seat.old.view seat.new.view }

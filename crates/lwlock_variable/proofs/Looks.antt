@@ -4,7 +4,7 @@ use Rattle.proc_table.specs.declared.Mode.TheVariants.{Shared}
 use Rattle.lw_core.specs.declared.step.Call.{Call}
 use Rattle.lw_core.specs.declared.step.Call.TheVariants.{WaitForVar}
 use Rattle.lw_core.specs.declared.step.LwStep.TheVariants.{Peek, Unlock, VarLoad}
-use Rattle.lw_core.specs.declared.view.Frame.TheVariants.{Comparing, TakingList, VarUnqueued}
+use Rattle.lw_core.specs.declared.view.Frame.TheVariants.{Comparing, Returning, TakingList, VarUnqueued}
 use Rattle.lw_core.specs.declared.view.Made.{Made}
 use Rattle.lw_core.specs.declared.view.View.{View}
 use Rattle.lw_core.specs.declared.view.Waiter.{Waiter}
@@ -22,15 +22,21 @@ use Rattle.lwlock_variable.specs.Waits.{BeginsComparing, Ends, OnChanged, OnFree
 to_read : (l old n : ℕ) (b : Option Call) (v : View) → BeginsComparing l old b v → is_free Shared n ≡ false → peeked b v.surplus n v.place ≡ TakingList l ∷ Comparing l old ∷ behind b v.place
 to_read l old n (Some (WaitForVar k older)) v may held = (λ i. cond (held i) v.place (TakingList k ∷ Comparing k older ∷ VarUnqueued k older ∷ v.place)) ∙ (λ i. TakingList (may.0 i) ∷ Comparing (may.0 i) (may.1 i) ∷ VarUnqueued k older ∷ v.place)
 to_read l old n (Some c) v may held = absurd may
-to_read l old n None v may held = ap (peeked None v.surplus n) may ∙ (λ i. cond (held i) (on_outcome v.surplus (outer v.place)) (TakingList l ∷ Comparing l old ∷ outer v.place))
+to_read l old n None v may held = ap (peeked None v.surplus n) may ∙ (λ i. cond (held i) (on_outcome false v.surplus (outer v.place)) (TakingList l ∷ Comparing l old ∷ outer v.place))
 
 in_order : (v more : List Made) (x y z : Made) → (((v ++ x ∷ []) ++ more) ++ y ∷ []) ++ z ∷ [] ≡ v ++ (x ∷ (more ++ (y ∷ z ∷ [])))
 in_order v more x y z = simp append_assoc
 
+-- the variable was read, and the list is to go home as it was found
+pub to_return : (l old n m : ℕ) (b : Option Call) (x y found : List Waiter) (more : List Made) (v a u d : View) → BeginsComparing l old b v → is_free Shared n ≡ false → a ≡ next (Peek l b) v n x → u ≡ went a (in_hand found (outer a.place)) more → d ≡ next (VarLoad l) u m y
+    → d.place ≡ Returning l old found m ∷ behind b v.place
+to_return l old n m b x y found more v a u d may held looked taken read =
+    ap (λ (s : View). s.place) read ∙ (ap (λ (s : View). compared m s.place) taken ∙ (ap (λ (s : View). compared m (in_hand found (outer s.place))) looked ∙ (λ i. compared m (in_hand found (outer (to_read l old n b v may held i))))))
+
 -- the look, the list in hand, the variable read and the list at home again
 pub compares : (l old n m o : ℕ) (b : Option Call) (x y z found : List Waiter) (more : List Made) (v a u d w : View) → BeginsComparing l old b v → is_free Shared n ≡ false → a ≡ next (Peek l b) v n x → u ≡ went a (in_hand found (outer a.place)) more
     → d ≡ next (VarLoad l) u m y → w ≡ next (Unlock l false) d o z
-    → w ≡ went v (cond (eqb m old) (on_conflict (behind b v.place)) (on_outcome v.surplus (behind b v.place))) (made (Peek l b) n ∷ (more ++ (made (VarLoad l) m ∷ made (Unlock l false) o ∷ [])))
+    → w ≡ went v (cond (eqb m old) (on_conflict (behind b v.place)) (on_outcome true v.surplus (behind b v.place))) (made (Peek l b) n ∷ (more ++ (made (VarLoad l) m ∷ made (Unlock l false) o ∷ [])))
 compares l old n m o b x y z found more v a u d w may held looked taken read home =
     let last : View → View = λ (s : View). next (Unlock l false) s o z in let both : View → View = λ (s : View). last (next (VarLoad l) s m y) in let all : View → View = λ (s : View). both (went s (in_hand found (outer s.place)) more) in
     home ∙ (ap last read ∙ (ap both taken ∙ (ap all looked

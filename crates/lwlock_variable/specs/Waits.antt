@@ -1,5 +1,5 @@
 -- A wait for a lock's variable: where it may begin, how its parts end, and what the answer was found by.
-use Rattle.std.specs.Prelude.{◌≡◌, ◌≢◌, ◌⊎◌, ℕ, ◌+◌, ◌<◌, ◌^◌, true, [], ◌∷◌, Option, None, Some, ⊤}
+use Rattle.std.specs.Prelude.{◌≡◌, ◌≢◌, ◌⊎◌, ℕ, ◌+◌, ◌<◌, ◌^◌, Bool, true, false, [], ◌∷◌, Option, None, Some, ⊤}
 use Rattle.proc_table.specs.declared.Mode.TheVariants.{Shared}
 use Rattle.lw_core.specs.declared.step.Call.{Call}
 use Rattle.lw_core.specs.declared.step.Call.TheVariants as call
@@ -34,9 +34,14 @@ abbrev pub behind : Option Call → Place → Place
 behind (Some (call.WaitForVar l old)) p = VarUnqueued l old ∷ p
 behind b p = outer p
 
+-- the look that found this outcome found an exclusive holder too
+abbrev pub conflicted : VarWait → Bool
+conflicted (Free seen) = false
+conflicted (Changed value) = true
+
 -- after a look: where it found an outcome, and where it found none
 abbrev pub goes_on : Option VarWait → ℕ → Place → Place
-goes_on (Some answer) surplus p = on_outcome surplus p
+goes_on (Some answer) surplus p = on_outcome (conflicted answer) surplus p
 goes_on None surplus p = on_conflict p
 
 -- a look of the call found a word that has no exclusive holder

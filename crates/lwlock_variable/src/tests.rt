@@ -67,7 +67,7 @@ fn reads<R: Abort>(
     requires table { (seat.old.table_id ≡ table.now.table_id) × (lock < table.now.locks) }
     requires place { seat.old.view.place ≡ TakingList lock ∷ Comparing lock old ∷ outer (outer seat.old.view.place) }
     ensures table { seat.new.table_id ≡ seat.old.table_id }
-    ensures view { Went (cond (value == old) (on_conflict (outer (outer seat.old.view.place))) (on_outcome seat.old.view.surplus (outer (outer seat.old.view.place)))) seat.old.view seat.new.view }
+    ensures view { Went (cond (value == old) (on_conflict (outer (outer seat.old.view.place))) (on_outcome true seat.old.view.surplus (outer (outer seat.old.view.place)))) seat.old.view seat.new.view }
 {
     assert!(rt; list_is_home(word));
     line(rt, table.step(seat, LwStep::Lock(lock, None)), word, true);

@@ -147,9 +147,9 @@ fn marks<R: Abort>(
 )
     requires table { (seat.old.table_id ≡ table.now.table_id) × (table.now.procs ≤ 64) }
     requires taken { AllBelow table.now.procs taken.now.items }
-    requires place { seat.old.view.place ≡ Marking lock (found_at seat.old.view.place) [] taken.now.items ∷ [] }
+    requires place { seat.old.view.place ≡ Marking lock false (found_at seat.old.view.place) [] taken.now.items ∷ [] }
     ensures table { seat.new.table_id ≡ seat.old.table_id }
-    ensures view { Went (Marking lock (found_at seat.old.view.place) taken.now.items [] ∷ []) seat.old.view seat.new.view }
+    ensures view { Went (Marking lock false (found_at seat.old.view.place) taken.now.items [] ∷ []) seat.old.view seat.new.view }
     ensures list { seat.new.list ≡ seat.old.list }
 {
     for waiter in taken.as_slice() {

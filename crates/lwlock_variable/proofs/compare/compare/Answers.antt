@@ -1,15 +1,30 @@
-use Rattle.std.proofs.Common.{ℕ, false, List, [], ◌∷◌, ◌++◌, sym, ap, ◌∙◌, cond, eq-eqb, ne_eqb}
+use Rattle.std.proofs.Common.{ℕ, false, true, List, [], ◌∷◌, ◌++◌, refl, sym, ap, ◌∙◌, cond, subst, eq-eqb, ne_eqb}
 use Rattle.lw_core.specs.declared.step.LwStep.TheVariants.{Peek, Unlock, VarLoad}
 use Rattle.lw_core.specs.declared.view.Made.{Made}
 use Rattle.lw_core.specs.declared.view.View.{View}
-use Rattle.lw_core.specs.Machine.{made, on_conflict, on_outcome}
+use Rattle.lw_core.specs.Machine.{Place, left_at, made, MaySendHome, number_of, on_conflict, on_outcome}
 use Rattle.lwlock.specs.Calls.{went}
 use Rattle.lwlock_variable.specs.Waits.{behind}
-use Rattle.lwlock_variable.proofs.Looks.{compares}
+use Rattle.lwlock_variable.proofs.Looks.{compares, to_return}
 use Rattle.lwlock_variable.proofs.compare.compare.Goals as goal
 
 pub returns-then-is_free_for-clause-finds : goal.returns-then-is_free_for-clause-finds
 returns-then-is_free_for-clause-finds g c = (sym c.is_free_for.ensures ∙ c.if-is_free_for.true, (c.args.begins, ([], ([], ap (λ (a : View). a.steps) c.step-seen.ensures.view))))
+
+-- the place at which the list is to go home
+pub step-requires-clause-allowed : goal.step-requires-clause-allowed
+step-requires-clause-allowed g c =
+    let v : View = c.args.seat.now.view in let d : View = c.step-value.new.seat.view in let taken = c.take_list.ensures.view in
+    let place = to_return c.args.lock c.args.old c.step-seen.result.old c.step-value.result.old c.args.begins c.step-seen.new.seat.list c.step-value.new.seat.list c.take_list.new.seat.list taken.0 v c.step-seen.new.seat.view c.take_list.new.seat.view d
+    c.requires.place (sym c.is_free_for.ensures ∙ c.if-is_free_for.false) c.step-seen.ensures.view taken.1 c.step-value.ensures.view in
+    subst (λ (p : Place). MaySendHome c.args.lock false (number_of d.own) p) (sym place) (refl, refl)
+
+pub step-requires-clause-list : goal.step-requires-clause-list
+step-requires-clause-list g c =
+    let v : View = c.args.seat.now.view in let d : View = c.step-value.new.seat.view in let taken = c.take_list.ensures.view in
+    let place = to_return c.args.lock c.args.old c.step-seen.result.old c.step-value.result.old c.args.begins c.step-seen.new.seat.list c.step-value.new.seat.list c.take_list.new.seat.list taken.0 v c.step-seen.new.seat.view c.take_list.new.seat.view d
+    c.requires.place (sym c.is_free_for.ensures ∙ c.if-is_free_for.false) c.step-seen.ensures.view taken.1 c.step-value.ensures.view in
+    c.step-value.ensures.list.0 refl refl ∙ ap (λ (p : Place). left_at p (number_of d.own)) (sym place)
 
 pub returns-then-value-old-clause-view : goal.returns-then-value-old-clause-view
 returns-then-value-old-clause-view g c =
@@ -17,7 +32,7 @@ returns-then-value-old-clause-view g c =
     let made_here : List Made = made (Peek l b) n ∷ (taken.0 ++ (made (VarLoad l) m ∷ made (Unlock l false) o ∷ [])) in
     let is = compares l c.args.old n m o b c.step-seen.new.seat.list c.step-value.new.seat.list c.step.new.seat.list c.take_list.new.seat.list taken.0 v c.step-seen.new.seat.view c.take_list.new.seat.view c.step-value.new.seat.view c.step.new.seat.view
     c.requires.place (sym c.is_free_for.ensures ∙ c.if-is_free_for.false) c.step-seen.ensures.view taken.1 c.step-value.ensures.view c.step.ensures.view in
-    (made_here, is ∙ (λ i. went v (cond (eq-eqb m c.args.old c.if-value-old.true i) (on_conflict (behind b v.place)) (on_outcome v.surplus (behind b v.place))) made_here))
+    (made_here, is ∙ (λ i. went v (cond (eq-eqb m c.args.old c.if-value-old.true i) (on_conflict (behind b v.place)) (on_outcome true v.surplus (behind b v.place))) made_here))
 
 pub returns-else-value-old-clause-view : goal.returns-else-value-old-clause-view
 returns-else-value-old-clause-view g c =
@@ -25,7 +40,7 @@ returns-else-value-old-clause-view g c =
     let made_here : List Made = made (Peek l b) n ∷ (taken.0 ++ (made (VarLoad l) m ∷ made (Unlock l false) o ∷ [])) in
     let is = compares l c.args.old n m o b c.step-seen.new.seat.list c.step-value.new.seat.list c.step.new.seat.list c.take_list.new.seat.list taken.0 v c.step-seen.new.seat.view c.take_list.new.seat.view c.step-value.new.seat.view c.step.new.seat.view
     c.requires.place (sym c.is_free_for.ensures ∙ c.if-is_free_for.false) c.step-seen.ensures.view taken.1 c.step-value.ensures.view c.step.ensures.view in
-    (made_here, is ∙ (λ i. went v (cond (ne_eqb m c.args.old c.if-value-old.false i) (on_conflict (behind b v.place)) (on_outcome v.surplus (behind b v.place))) made_here))
+    (made_here, is ∙ (λ i. went v (cond (ne_eqb m c.args.old c.if-value-old.false i) (on_conflict (behind b v.place)) (on_outcome true v.surplus (behind b v.place))) made_here))
 
 pub returns-else-value-old-clause-finds : goal.returns-else-value-old-clause-finds
 unfolding returns-else-value-old-clause-view

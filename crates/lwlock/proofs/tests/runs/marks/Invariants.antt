@@ -8,5 +8,5 @@ abbrev pub invariant-loop-waiter : goal.invariant-loop-waiter
 invariant-loop-waiter g l = record {
   table : (l.seat.table_id ≡ l.fn.seat.table_id) × (l.seat.id ≡ l.fn.seat.id);
   list : l.seat.list ≡ l.fn.seat.list;
-  view : Went (Marking l.fn.lock (found_at l.fn.seat.view.place) (take l.waiter-index l.waiter-items) (drop l.waiter-index l.waiter-items) ∷ []) l.fn.seat.view l.seat.view;
+  view : Went (Marking l.fn.lock false (found_at l.fn.seat.view.place) (take l.waiter-index l.waiter-items) (drop l.waiter-index l.waiter-items) ∷ []) l.fn.seat.view l.seat.view;
 }
