@@ -34,3 +34,4 @@ pub mod NoLostWake
 pub mod Moves
 pub mod Asks
 pub mod SeatLemmas
+pub mod Programs

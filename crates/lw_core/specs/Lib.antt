@@ -24,3 +24,4 @@ pub mod Lending
 pub mod Sending
 pub mod Closing
 pub mod Promises
+pub mod Programs

@@ -106,6 +106,29 @@ tries_again l m o n sleeps surplus other found v u a w stands answered is =
           ∙ (λ i. record v { place = Trying l m n ∷ Unqueued l m (want_of m) true ∷ []; steps = (append_assoc (v.steps ++ stands.0) (set ∷ []) (load ∷ []) ∙ append_assoc v.steps stands.0 (set ∷ load ∷ [])) i; waits = add_assoc v.waits sleeps 1 i; surplus = surplus }))),
     )
 
+-- AFTER A ROUND. A call that began with one attempt, which was refused, ends with its round
+round_in_order : (v first tried more given : List Made) → ((((v ++ first) ++ tried) ++ more) ++ given) ≡ v ++ (first ++ (tried ++ (more ++ given)))
+round_in_order v first tried more given = simp append_assoc
+
+pub granted_after : (l : ℕ) (m : Mode) (p q r : Place) (s : ℕ) (first tried more : List Made) (v a u w x : View) → a ≡ went v p first → u ≡ went a q tried
+    → w ≡ record u { place = r; steps = u.steps ++ more; holds = set u.holds l (held m); grants = u.grants + 1; surplus = s } → WentWith [] 0 w x → v.surplus ≡ 0 → Granted l m [] v x
+granted_after l m p q r s first tried more v a u w x began refused ended given none = (
+  first ++ (tried ++ (more ++ given.0)),
+  given.1
+      ∙ (ap (λ (y : View). record y { place = []; steps = y.steps ++ given.0; surplus = 0 }) ended
+      ∙ (ap (λ (y : View). record y { place = []; steps = (y.steps ++ more) ++ given.0; holds = set y.holds l (held m); grants = y.grants + 1; surplus = 0 }) (refused ∙ ap (λ (y : View). went y q tried) began)
+      ∙ (λ i. record v { place = []; steps = round_in_order v.steps first tried more given.0 i; holds = set v.holds l (held m); grants = v.grants + 1; surplus = sym none i }))),
+)
+
+pub went_after : (p q r : Place) (s : ℕ) (first tried more : List Made) (v a u w x : View) → a ≡ went v p first → u ≡ went a q tried → w ≡ record u { place = r; steps = u.steps ++ more; surplus = s } → WentWith [] 0 w x → v.surplus ≡ 0 → Went [] v x
+went_after p q r s first tried more v a u w x began refused ended given none = (
+  first ++ (tried ++ (more ++ given.0)),
+  given.1
+      ∙ (ap (λ (y : View). record y { place = []; steps = y.steps ++ given.0; surplus = 0 }) ended
+      ∙ (ap (λ (y : View). record y { place = []; steps = (y.steps ++ more) ++ given.0; surplus = 0 }) (refused ∙ ap (λ (y : View). went y q tried) began)
+      ∙ (λ i. record v { place = []; steps = round_in_order v.steps first tried more given.0 i; surplus = sym none i }))),
+)
+
 -- FREED. A sleep after a refusal: what the steps of queueing, of the attempt and of the sleep say together
 stores-append : (xs ys : List Made) → stores (xs ++ ys) ≡ stores xs + stores ys
 stores-append xs ys = sum_by-append (λ (a : Made). cond (is_store a.step) 1 0) xs ys

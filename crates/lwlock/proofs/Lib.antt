@@ -2,3 +2,4 @@ pub mod Flags
 pub mod Waiting
 pub mod Later
 pub mod Telling
+pub mod Sleeps

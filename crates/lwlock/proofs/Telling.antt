@@ -1,16 +1,15 @@
 -- A wake's exchange and what follows it.
-use Rattle.std.proofs.Common.{◌≡◌, ℕ, Bool, true, false, List, [], ◌∷◌, ◌++◌, None, refl, sym, ap, ◌∙◌, append_assoc}
+use Rattle.std.proofs.Common.{◌≡◌, ℕ, Bool, true, false, List, [], ◌∷◌, ◌++◌, None, refl, ap, ◌∙◌, append_assoc}
 use Rattle.lw_core.specs.declared.step.LwStep.{LwStep}
-use Rattle.lw_core.specs.declared.step.LwStep.TheVariants.{WaitStore, Wake, Post}
+use Rattle.lw_core.specs.declared.step.LwStep.TheVariants.{WaitStore, Post}
 use Rattle.lw_core.specs.declared.view.Made.{Made}
 use Rattle.lw_core.specs.declared.view.View.{View}
 use Rattle.lw_core.specs.declared.view.Waiter.{Waiter}
-use Rattle.lw_core.specs.Machine.{Place, made, next, telling, woken_word}
-use Rattle.lw_core.specs.WaitLists.{taken_from, kept_from}
+use Rattle.lw_core.specs.Machine.{Place, made, next, stored, telling}
 use Rattle.lwlock.specs.Calls.{went}
-use Rattle.lwlock.specs.Wakes.{Exchanged, WokenInCall, found_at, kinds, marking, told_by}
+use Rattle.lwlock.specs.Wakes.{found_at, kinds, marked_by, marking, told_by}
 
-kinds_append : (xs ys : List Made) → kinds (xs ++ ys) ≡ kinds xs ++ kinds ys
+pub kinds_append : (xs ys : List Made) → kinds (xs ++ ys) ≡ kinds xs ++ kinds ys
 kinds_append [] ys = refl
 kinds_append (x ∷ xs) ys = ap (λ (ks : List LwStep). x.step ∷ ks) (kinds_append xs ys)
 
@@ -31,21 +30,27 @@ told_one n o u us found other all v a b w told cleared posted =
       ),
     )
 
+-- these are still to be marked; with those who were it makes all
+abbrev pub MarkedUpTo : Bool → ℕ → Bool → List Waiter → List Waiter → List Waiter → List LwStep → View → View → Type 0
+MarkedUpTo updates l updated found marked us all v w = (more : List Made) × ((w ≡ went v (marking updates l updated found marked us ∷ []) more) × (kinds more ++ marked_by us ≡ all))
+
+marks_next : (updates : Bool) (l surplus : ℕ) (updated : Bool) (found marked us : List Waiter) (u : Waiter) → stored surplus (marking updates l updated found marked (u ∷ us) ∷ []) ≡ marking updates l updated found (marked ++ u ∷ []) us ∷ []
+marks_next true l surplus updated found marked us u = refl
+marks_next false l surplus updated found marked us u = refl
+
+-- one more was marked
+pub marked_one : (updates : Bool) (l n : ℕ) (updated : Bool) (found marked us other : List Waiter) (u : Waiter) (all : List LwStep) (v a w : View) → MarkedUpTo updates l updated found marked (u ∷ us) all v a → w ≡ next (WaitStore u.proc 2) a n other
+    → MarkedUpTo updates l updated found (marked ++ u ∷ []) us all v w
+marked_one updates l n updated found marked us other u all v a w done is =
+    let one : List Made = made (WaitStore u.proc 2) n ∷ [] in (
+      done.0 ++ one,
+      (
+        is ∙ (ap (λ (x : View). next (WaitStore u.proc 2) x n other) done.1.0 ∙ (λ i. record v { place = marks_next updates l v.surplus updated found marked us u i; steps = append_assoc v.steps done.0 one i })),
+        ap (λ (ks : List LwStep). ks ++ marked_by us) (kinds_append done.0 one) ∙ (append_assoc (kinds done.0) (kinds one) (marked_by us) ∙ done.1.1),
+      ),
+    )
+
 -- those who are marked are on the list that was found
 pub marks_found : (b : Bool) (l : ℕ) (updated : Bool) (found marked rest : List Waiter) (p : Place) → found_at (marking b l updated found marked rest ∷ p) ≡ found
 marks_found true l updated found marked rest p = refl
 marks_found false l updated found marked rest p = refl
-
--- the exchange was made in a call that began some steps before
-pub exchanged_before : (l : ℕ) (found : List Waiter) (v u w : View) → Exchanged l found u w → (more : List Made) → u.steps ≡ v.steps ++ more → Exchanged l found v w
-exchanged_before l found v u w is more e =
-    let last : List Made = made (Wake l is.0 (woken_word (taken_from found) (kept_from found) is.0)) is.0 ∷ [] in (
-      is.0,
-      (
-        more ++ is.1.0,
-        is.1.1 ∙ (ap (λ (s : List Made). s ++ (is.1.0 ++ last)) e ∙ (append_assoc v.steps more (is.1.0 ++ last) ∙ ap (λ (s : List Made). v.steps ++ s) (sym (append_assoc more is.1.0 last)))),
-      ),
-    )
-
-pub woken_before : (l : ℕ) (v u w : View) → WokenInCall l u w → (more : List Made) → u.steps ≡ v.steps ++ more → WokenInCall l v w
-woken_before l v u w is more e = (is.0, (is.1.0, (exchanged_before l is.0 v u is.1.0 is.1.1.0 more e, is.1.1.1)))

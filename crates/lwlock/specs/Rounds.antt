@@ -29,7 +29,7 @@ abbrev pub RoundEnds : ℕ → Mode → Want → Round → View → View → Typ
 RoundEnds l m want (round.Granted more) v w = GrantedWith l m (v.surplus + more) v w × ((hold_in l w ≡ held m) × ((more ≡ 0) ⊎ (v.surplus + more < 2 ^ 32)))
 RoundEnds l m want (round.Woken seen more) v w = WentWith (resumed (v.surplus + more) (on_waking want l m [])) (v.surplus + more) v w × (v.surplus + more < 2 ^ 32)
 
--- where it slept, the word that was seen conflicts, and the lock was let go of since
+-- where it slept, the word that was seen conflicts, and somebody took the backend off the list since
 abbrev pub RoundFreed : ℕ → Mode → Round → View → View → Type 0
 RoundFreed l m (round.Granted more) v w = ⊤
 RoundFreed l m (round.Woken seen more) v w = (seen < 2 ^ 32) × Blocks seen m × FreedInCall (number_of v.own) l m seen v w

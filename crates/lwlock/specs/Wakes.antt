@@ -1,8 +1,8 @@
 -- What a wake does with the list that it found.
-use Rattle.std.specs.Prelude.{◌≡◌, ℕ, ◌-◌, Bool, true, false, cond, List, [], ◌∷◌, ◌++◌, Option, None}
+use Rattle.std.specs.Prelude.{◌≡◌, ℕ, ◌-◌, Bool, true, false, cond, not, count_by, List, [], ◌∷◌, ◌++◌, Option, None}
 use Rattle.lw_core.specs.declared.step.Call.{Call}
 use Rattle.lw_core.specs.declared.step.LwStep.{LwStep}
-use Rattle.lw_core.specs.declared.step.LwStep.TheVariants.{Sub, WaitStore, Wake, Post}
+use Rattle.lw_core.specs.declared.step.LwStep.TheVariants.{Load, Lock, Sub, WaitStore, Wake, Post}
 use Rattle.lw_core.specs.declared.view.Frame.{Frame}
 use Rattle.lw_core.specs.declared.view.Frame.TheVariants.{TakingList, Waking, Calling, Marking}
 use Rattle.lw_core.specs.declared.view.Made.{Made}
@@ -46,6 +46,11 @@ abbrev pub kinds : List Made → List LwStep
 kinds [] = []
 kinds (m ∷ ms) = m.step ∷ kinds ms
 
+-- each of these is marked in turn: its wake is coming
+abbrev pub marked_by : List Waiter → List LwStep
+marked_by [] = []
+marked_by (u ∷ us) = WaitStore u.proc 2 ∷ marked_by us
+
 -- each of these is told in turn: it doesn't wait any more, and its semaphore is raised
 abbrev pub told_by : List Waiter → List LwStep
 told_by [] = []
@@ -55,19 +60,57 @@ told_by (u ∷ us) = WaitStore u.proc 0 ∷ Post u.proc None ∷ told_by us
 abbrev pub WentBy : List LwStep → Place → View → View → Type 0
 WentBy steps p v w = (more : List Made) × ((w ≡ record v { place = p; steps = v.steps ++ more }) × (kinds more ≡ steps))
 
--- the last step exchanged the state word, as it found it, for the one after a wake of this list
-abbrev pub Exchanged : ℕ → List Waiter → View → View → Type 0
-Exchanged l found v w = (word : ℕ) × ((before : List Made) × (w.steps ≡ v.steps ++ (before ++ made (Wake l word (woken_word (taken_from found) (kept_from found) word)) word ∷ [])))
+-- a step by which a list is taken in hand, and one of the exchange of a wake: the state word is loaded, or is another one than was expected
+abbrev pub takes_in_hand : LwStep → Bool
+takes_in_hand (Load l begins) = true
+takes_in_hand (Lock l begins) = true
+takes_in_hand k = false
 
--- A wake took off a list whom it takes: it exchanged the state word, and then told each of them
-abbrev pub WokenInCall : ℕ → View → View → Type 0
-WokenInCall l v w = (found : List Waiter) × ((u : View) × (Exchanged l found v u × ((since : List Made) × ((w.steps ≡ u.steps ++ since) × (kinds since ≡ told_by (taken_from found))))))
+abbrev pub seeks_word : LwStep → Bool
+seeks_word (Load l begins) = true
+seeks_word (Wake l word to) = true
+seeks_word k = false
 
--- where a wake is called for there was one, and else no step more
-abbrev pub WakesIf : Bool → ℕ → List Made → View → View → Type 0
-WakesIf true l more v w = WokenInCall l v w
-WakesIf false l more v w = more ≡ []
+-- the steps made since the first view took a list in hand, and did nothing else
+abbrev pub OnlyTook : View → View → Type 0
+OnlyTook v w = count_by (λ m. not (takes_in_hand m.step)) w.steps ≡ count_by (λ m. not (takes_in_hand m.step)) v.steps
+
+-- all of the steps serve to take a list in hand, or seek the state word
+abbrev pub AllTake : List Made → Type 0
+AllTake made = count_by (λ m. not (takes_in_hand m.step)) made ≡ 0
+
+abbrev pub AllSeek : List Made → Type 0
+AllSeek made = count_by (λ m. not (seeks_word m.step)) made ≡ 0
+
+-- the steps made since the first view exchanged the state word, as the last one found it, for the one after a wake of this list
+pub record Exchanged (l : ℕ) (found : List Waiter) (v w : View) : Type 0 where
+  pub word : ℕ
+  pub seeking : List Made
+  pub steps : w.steps ≡ v.steps ++ (seeking ++ made (Wake l word (woken_word (taken_from found) (kept_from found) word)) word ∷ [])
+  pub only_sought : AllSeek seeking
+
+-- The steps of a wake: the list is taken in hand, each whom the wake takes off it is marked, the state word is exchanged, and then each of them is told
+pub record WakeSteps (l : ℕ) (steps : List Made) : Type 0 where
+  pub found : List Waiter
+  pub word : ℕ
+  pub taking : List Made
+  pub marks : List Made
+  pub seeking : List Made
+  pub since : List Made
+  pub split : steps ≡ taking ++ (marks ++ (seeking ++ (made (Wake l word (woken_word (taken_from found) (kept_from found) word)) word ∷ since)))
+  pub only_took : AllTake taking
+  pub marked : kinds marks ≡ marked_by (taken_from found)
+  pub only_sought : AllSeek seeking
+  pub told : kinds since ≡ told_by (taken_from found)
+
+abbrev pub Wakes : ℕ → View → View → Type 0
+Wakes l v w = (more : List Made) × ((w.steps ≡ v.steps ++ more) × WakeSteps l more)
+
+-- where a wake is called for these are its steps, and else there are none
+abbrev pub WakesIf : Bool → ℕ → List Made → Type 0
+WakesIf true l more = WakeSteps l more
+WakesIf false l more = more ≡ []
 
 -- the release, which begins a call or is the last part of one, found the word, and a wake followed where the word that it left calls for one
 abbrev pub WakesRightly : ℕ → Option Call → View → View → Type 0
-WakesRightly l begins v w = (word : ℕ) × ((more : List Made) × ((w.steps ≡ v.steps ++ (made (Sub l begins) word ∷ more)) × WakesIf (calls_for_wake (word - grant_held (mode_in l v))) l more v w))
+WakesRightly l begins v w = (word : ℕ) × ((more : List Made) × ((w.steps ≡ v.steps ++ (made (Sub l begins) word ∷ more)) × WakesIf (calls_for_wake (word - grant_held (mode_in l v))) l more))

@@ -2,6 +2,7 @@
 ghost use Rattle.std.specs.Prelude.{◌≡◌, ◌<◌, ◌^◌, Some, IfErr, OnOk, MatchResult};
 ghost use Rattle.lw_core.specs.declared.view.Frame.TheVariants.{Trying};
 ghost use Rattle.lw_core.specs.Machine.{held, hold_in, on_grant, on_refusal, outer, top};
+ghost use Rattle.lw_core.specs.Programs.{BeginsNone};
 ghost use Rattle.lw_core.specs.Words.{is_free};
 ghost use Rattle.lwlock.specs.Calls.{Granted, Refused};
 ghost use Rattle.semaphore.specs.Calls.{StoresNone};
@@ -42,6 +43,7 @@ pub(crate) fn attempt<G: Guarded, R: Wait>(
         (λ _. Granted lock mode (on_grant seat.old.view.surplus (outer seat.old.view.place)) seat.old.view seat.new.view)
         (λ e. Refused lock mode e (on_refusal (outer seat.old.view.place)) seat.old.view seat.new.view) }
     ensures stores { StoresNone seat.old.view seat.new.view }
+    ensures program { BeginsNone seat.old.view seat.new.view }
     ensures held { OnOk result (hold_in lock seat.new.view ≡ held mode) }
     ensures word { IfErr result (λ e. e < 2 ^ 32) }
 {

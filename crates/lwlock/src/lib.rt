@@ -2,9 +2,10 @@
 #![tactic(auto)]
 
 ghost use Rattle.std.specs.Prelude.{◌≡◌, ◌≢◌, ◌↔◌, ℕ, ◌+◌, ◌<◌, [], None, Some, IsSome, IsTrue, IfErr, OnOk, MatchResult};
-ghost use Rattle.lw_core.specs.declared.step.Call.TheVariants.{Release};
+ghost use Rattle.lw_core.specs.declared.step.Call.TheVariants as call;
 ghost use Rattle.lw_core.specs.declared.step.LwStep.TheVariants.{Refuse};
 ghost use Rattle.lw_core.specs.Machine.{LeavesLawful, held, hold_in, mode_in, not_held};
+ghost use Rattle.lw_core.specs.Programs.{Makes};
 ghost use Rattle.lw_core.specs.Words.{Blocks};
 ghost use Rattle.lwlock.specs.Calls.{Acquires, FoundInCall, Granted, Refused, RefusedInCall, Released};
 ghost use Rattle.lwlock.specs.Wakes.{WakesRightly};
@@ -57,6 +58,7 @@ pub fn acquire<G: Guarded, R: Wait>(
     ensures surplus { seat.new.view.surplus ≡ 0 }
     ensures waited { IsTrue result.waited ↔ (seat.old.view.waits < seat.new.view.waits) }
     ensures refused { IsTrue result.waited → RefusedInCall lock mode seat.old.view seat.new.view }
+    ensures program { Makes (call.Acquire lock mode) seat.old.view seat.new.view }
     ensures view { (sleeps : ℕ) × Acquires lock mode sleeps seat.old.view seat.new.view }
 {
     let begins = Some(Call::Acquire(lock, mode));
@@ -89,6 +91,7 @@ pub fn conditional_acquire<G: Guarded, R: Wait>(
     ensures others { (k : ℕ) → k ≢ lock → hold_in k seat.new.view ≡ hold_in k seat.old.view }
     ensures refused { IfErr result (λ e. Blocks e.seen mode × (mode_in lock seat.new.view ≡ None)) }
     ensures seen { IfErr result (λ e. FoundInCall seat.old.view seat.new.view (Refuse lock mode e.seen) e.seen) }
+    ensures program { Makes (call.Try lock mode) seat.old.view seat.new.view }
 {
     let begins = Some(Call::Try(lock, mode));
     let word = table.step(seat, LwStep::Load(lock, begins)).old;
@@ -108,7 +111,8 @@ pub fn release<G: Guarded, R: Wait>(rt: &R, table: &LwTable<G>, seat: &mut LwSea
     ensures table { (seat.new.table_id ≡ seat.old.table_id) × (seat.new.id ≡ seat.old.id) }
     ensures idle { seat.new.view.place ≡ [] }
     ensures view { Released lock seat.old.view seat.new.view }
-    ensures woken { WakesRightly lock (Some (Release lock)) seat.old.view seat.new.view }
+    ensures woken { WakesRightly lock (Some (call.Release lock)) seat.old.view seat.new.view }
+    ensures program { Makes (call.Release lock) seat.old.view seat.new.view }
     ensures free { hold_in lock seat.new.view ≡ not_held }
     ensures others { (k : ℕ) → k ≢ lock → hold_in k seat.new.view ≡ hold_in k seat.old.view }
 {

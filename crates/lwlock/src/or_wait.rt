@@ -1,7 +1,9 @@
 //! Acquire or wait: one who only wants that a holder's work is done takes the lock where it is free,
-//! and else sleeps until it was let go of.
+//! and else sleeps until a holder lets go of it, or stores its variable.
 ghost use Rattle.std.specs.Prelude.{◌≡◌, ◌≢◌, ℕ, ◌<◌, [], None};
+ghost use Rattle.lw_core.specs.declared.step.Call.TheVariants as call;
 ghost use Rattle.lw_core.specs.Machine.{held, hold_in, mode_in, number_of};
+ghost use Rattle.lw_core.specs.Programs.{Makes};
 ghost use Rattle.lw_core.specs.Words.{Blocks};
 ghost use Rattle.lwlock.specs.Calls.{FreedInCall, Granted, Went};
 ghost use Rattle.lwlock.specs.OrWait.{OnFreed, OnGot};
@@ -18,13 +20,13 @@ use std::sync::Wait;
 pub enum OrWait {
     /// The lock is held.
     Got,
-    /// It was held in a mode that conflicts, and was let go of since; `seen` is the state word that
-    /// said so.
+    /// It was held in a mode that conflicts, as the state word `seen` says. Since then the backend
+    /// was woken, by a release or by a store of the lock's variable.
     Freed { seen: u32 },
 }
 
-/// Takes the lock where no holder conflicts, and else waits until it was let go of
-/// (`LWLockAcquireOrWait`).
+/// Takes the lock where no holder conflicts, and else waits until a release or a store of the
+/// lock's variable wakes it (`LWLockAcquireOrWait`).
 pub fn acquire_or_wait<G: Guarded, R: Wait>(
     rt: &R,
     table: &LwTable<G>,
@@ -45,6 +47,7 @@ pub fn acquire_or_wait<G: Guarded, R: Wait>(
     ensures freed { OnFreed result (λ seen. FreedInCall (number_of seat.old.view.own) lock mode seen seat.old.view seat.new.view) }
     ensures others { (k : ℕ) → k ≢ lock → hold_in k seat.new.view ≡ hold_in k seat.old.view }
     ensures surplus { seat.new.view.surplus ≡ 0 }
+    ensures program { Makes (call.AcquireOrWait lock mode) seat.old.view seat.new.view }
 {
     let begins = Some(Call::AcquireOrWait(lock, mode));
     let word = table.step(seat, LwStep::Load(lock, begins)).old;

@@ -2,11 +2,13 @@
 ghost use Rattle.std.specs.Prelude.{◌≡◌, ◌⊎◌, ◌+◌, ◌<◌, ◌≤◌, ◌^◌, ◌==◌, length, [], ◌∷◌};
 ghost use Rattle.lw_core.specs.declared.view.Frame.TheVariants.{TakingList, Spinning, Queueing, Dequeueing};
 ghost use Rattle.lw_core.specs.Closing.{size_of};
-ghost use Rattle.lw_core.specs.Machine.{BeginsTaking, in_hand, number_of, outer, resumed, taking};
+ghost use Rattle.lw_core.specs.Machine.{BeginsTaking, MayTake, in_hand, number_of, outer, resumed, taking};
+ghost use Rattle.lw_core.specs.Programs.{BeginsNone, MakesFrom};
 ghost use Rattle.lw_core.specs.Told.{TellsList};
 ghost use Rattle.lw_core.specs.WaitLists.{joined_by, without};
 ghost use Rattle.lw_core.specs.Words.{has_flag, locked};
 ghost use Rattle.lwlock.specs.Calls.{Announced, Went, WentWith};
+ghost use Rattle.lwlock.specs.Wakes.{OnlyTook};
 
 use crate::sleep::sleep;
 use arrayvec::ArrayVec;
@@ -40,10 +42,28 @@ pub fn take_list<G: Guarded, R: Wait>(
     ensures list { TellsList (size_of table.now) seat.old.view seat.new.list }
     ensures few { table.now.procs ≤ 64 }
     ensures surplus { seat.old.view.place ≡ [] → seat.old.view.surplus ≡ 0 }
+    ensures program { MakesFrom begins seat.old.view seat.new.view }
+    ensures took { OnlyTook seat.old.view seat.new.view }
 {
     if list_is_home(table.step(seat, LwStep::Lock(lock, begins)).old) {
         return;
     }
+    wait_for_list(rt, table, seat, lock);
+}
+
+// The same, once it was found in another's hand.
+fn wait_for_list<G: Guarded, R: Wait>(rt: &R, table: &LwTable<G>, seat: &mut LwSeat, lock: LockNo)
+    requires table { seat.old.table_id ≡ table.now.table_id }
+    requires lock { lock < table.now.locks }
+    requires place { seat.old.view.place ≡ Spinning lock ∷ outer seat.old.view.place }
+    requires next { MayTake lock (TakingList lock ∷ outer seat.old.view.place) }
+    ensures table { (seat.new.table_id ≡ seat.old.table_id) × (seat.new.id ≡ seat.old.id) }
+    ensures view { Went (in_hand seat.new.list (outer seat.old.view.place)) seat.old.view seat.new.view }
+    ensures list { TellsList (size_of table.now) seat.old.view seat.new.list }
+    ensures few { table.now.procs ≤ 64 }
+    ensures program { BeginsNone seat.old.view seat.new.view }
+    ensures took { OnlyTook seat.old.view seat.new.view }
+{
     let backoff = Backoff::new();
     for _ in rt.forever() {
         spin(rt, table, seat, lock, &backoff);
@@ -67,6 +87,8 @@ fn spin<G: Guarded, R: Wait>(
     requires place { seat.old.view.place ≡ Spinning lock ∷ outer seat.old.view.place }
     ensures table { (seat.new.table_id ≡ seat.old.table_id) × (seat.new.id ≡ seat.old.id) }
     ensures view { Went (TakingList lock ∷ outer seat.old.view.place) seat.old.view seat.new.view }
+    ensures took { OnlyTook seat.old.view seat.new.view }
+    ensures program { BeginsNone seat.old.view seat.new.view }
 {
     for _ in rt.forever() {
         backoff.snooze();
@@ -115,6 +137,7 @@ pub fn queue<G: Guarded, R: Wait>(
     ensures table { (seat.new.table_id ≡ seat.old.table_id) × (seat.new.id ≡ seat.old.id) }
     ensures view { Went (outer (outer seat.old.view.place)) seat.old.view seat.new.view }
     ensures announced { Announced (number_of seat.old.view.own) seat.old.view seat.new.view }
+    ensures program { BeginsNone seat.old.view seat.new.view }
 {
     take_list(rt, table, seat, lock, None);
     let own = table.proc_of(seat);
@@ -145,6 +168,7 @@ pub fn dequeue<G: Guarded, R: Wait>(
     ensures view { WentWith (resumed seat.new.view.surplus (outer (outer seat.old.view.place))) seat.new.view.surplus seat.old.view seat.new.view }
     ensures surplus { seat.new.view.surplus ≡ seat.old.view.surplus + result }
     ensures small { (result ≡ 0) ⊎ (seat.new.view.surplus < 2 ^ 32) }
+    ensures program { BeginsNone seat.old.view seat.new.view }
 {
     take_list(rt, table, seat, lock, None);
     let own = table.proc_of(seat);

@@ -4,6 +4,7 @@
 ghost use Rattle.std.specs.Prelude.{◌≡◌, ◌<◌, ◌^◌, false, [], ◌∷◌};
 ghost use Rattle.lw_core.specs.declared.view.Frame.TheVariants.{Attempting, Queued, Queueing, TakingList, Trying, Unqueued};
 ghost use Rattle.lw_core.specs.Machine.{held, hold_in, want_of};
+ghost use Rattle.lw_core.specs.Programs.{BeginsNone};
 ghost use Rattle.lwlock.specs.Rounds.{RoundEnds, RoundFreed, RoundsEnd};
 
 use crate::attempt::attempt;
@@ -46,6 +47,7 @@ pub(crate) fn run_round<G: Guarded, R: Wait>(
     ensures table { (seat.new.table_id ≡ seat.old.table_id) × (seat.new.id ≡ seat.old.id) }
     ensures view { RoundEnds lock mode want result seat.old.view seat.new.view }
     ensures freed { RoundFreed lock mode result seat.old.view seat.new.view }
+    ensures program { BeginsNone seat.old.view seat.new.view }
 {
     queue(rt, table, seat, lock, want);
     let word = table.step(seat, LwStep::Load(lock, None)).old;
@@ -85,6 +87,7 @@ pub(crate) fn try_until_granted<G: Guarded, R: Wait>(
     ensures table { (seat.new.table_id ≡ seat.old.table_id) × (seat.new.id ≡ seat.old.id) }
     ensures view { RoundsEnd lock mode result seat.old.view seat.new.view }
     ensures held { hold_in lock seat.new.view ≡ held mode }
+    ensures program { BeginsNone seat.old.view seat.new.view }
 {
     let want = wanted(mode);
     let mut waited = false;

@@ -2,11 +2,12 @@
 ghost use Rattle.std.specs.Prelude.{◌≡◌, ◌+◌, ◌<◌, ◌^◌, [], ◌∷◌};
 ghost use Rattle.lw_core.specs.declared.view.Frame.TheVariants.{GivingBack};
 ghost use Rattle.lw_core.specs.Machine.{outer, resumed};
+ghost use Rattle.lw_core.specs.Programs.{BeginsNone};
 ghost use Rattle.lwlock.specs.Calls.{FoundClear, WentWith, IsSleep};
 ghost use Rattle.semaphore.specs.Calls.{StoresNone};
 
 use lw_core::{Guarded, LwSeat, LwStep, LwTable};
-use semaphore::{down, post};
+use semaphore::{down_in_sleep, post};
 use std::sync::Wait;
 
 /// Sleeps until the seat's waiting field is 0. It answers how many wakes came before, which weren't
@@ -20,10 +21,11 @@ pub fn sleep<G: Guarded, R: Wait>(rt: &R, table: &LwTable<G>, seat: &mut LwSeat)
     ensures stores { StoresNone seat.old.view seat.new.view }
     ensures surplus { seat.new.view.surplus ≡ seat.old.view.surplus + result }
     ensures small { seat.new.view.surplus < 2 ^ 32 }
+    ensures program { BeginsNone seat.old.view seat.new.view }
 {
     let mut surplus = 0;
     for _ in rt.forever() {
-        down(rt, table, seat);
+        down_in_sleep(rt, table, seat);
         if table.step(seat, LwStep::WaitLoad).old == 0 {
             return surplus;
         }
@@ -39,6 +41,7 @@ pub fn give_back<G: Guarded>(table: &LwTable<G>, seat: &mut LwSeat, surplus: u64
     requires place { seat.old.view.place ≡ resumed surplus (GivingBack ∷ []) }
     ensures table { (seat.new.table_id ≡ seat.old.table_id) × (seat.new.id ≡ seat.old.id) }
     ensures view { WentWith [] 0 seat.old.view seat.new.view }
+    ensures program { BeginsNone seat.old.view seat.new.view }
 {
     let own = table.proc_of(seat);
     for _given in 0..surplus {

@@ -3,10 +3,11 @@ ghost use Rattle.std.specs.Prelude.{◌≡◌, ◌<◌, ◌≤◌, ◌^◌, ◌-
 ghost use Rattle.lw_core.specs.declared.view.Frame.TheVariants.{TakingList, Waking, Marking};
 ghost use Rattle.lw_core.specs.declared.view.Want.TheVariants.{Exclusive, UntilFree};
 ghost use Rattle.lw_core.specs.Machine.{BeginsRelease, LeavesLawful, calls_for_wake, hold_in, not_held, outer, releasing, telling};
+ghost use Rattle.lw_core.specs.Programs.{BeginsNone, MakesFrom};
 ghost use Rattle.lw_core.specs.WaitLists.{AllBelow, has_locker, kept_from, same_want, taken_from};
 ghost use Rattle.lw_core.specs.Words.{grant_held};
 ghost use Rattle.lwlock.specs.Calls.{Released, Went};
-ghost use Rattle.lwlock.specs.Wakes.{Exchanged, WakesRightly, WentBy, WokenInCall, answered_to, found_at, marking, told_by, updated_at, updates_at, woken_to};
+ghost use Rattle.lwlock.specs.Wakes.{Exchanged, Wakes, WakesRightly, WentBy, answered_to, found_at, marked_by, marking, told_by, updated_at, updates_at, woken_to};
 
 use crate::attempt::{EXCLUSIVE, LOCK_MASK};
 use crate::queue::{LOCKED, take_list};
@@ -145,8 +146,9 @@ pub fn mark<G: Guarded>(
     requires taken { AllBelow table.now.procs taken.now.items }
     requires place { seat.old.view.place ≡ marking (updates_at seat.old.view.place) lock (updated_at seat.old.view.place) (found_at seat.old.view.place) [] taken.now.items ∷ [] }
     ensures table { (seat.new.table_id ≡ seat.old.table_id) × (seat.new.id ≡ seat.old.id) }
-    ensures view { Went (marking (updates_at seat.old.view.place) lock (updated_at seat.old.view.place) (found_at seat.old.view.place) taken.now.items [] ∷ []) seat.old.view seat.new.view }
+    ensures view { WentBy (marked_by taken.now.items) (marking (updates_at seat.old.view.place) lock (updated_at seat.old.view.place) (found_at seat.old.view.place) taken.now.items [] ∷ []) seat.old.view seat.new.view }
     ensures list { seat.new.list ≡ seat.old.list }
+    ensures program { BeginsNone seat.old.view seat.new.view }
 {
     for waiter in taken.as_slice() {
         table.step(seat, LwStep::WaitStore(proc_of(waiter), 2));
@@ -169,6 +171,7 @@ fn detach<G: Guarded, R: Wait>(
     ensures table { (seat.new.table_id ≡ seat.old.table_id) × (seat.new.id ≡ seat.old.id) }
     ensures view { Went (telling (taken_from (found_at seat.old.view.place)) []) seat.old.view seat.new.view }
     ensures exchanged { Exchanged lock (found_at seat.old.view.place) seat.old.view seat.new.view }
+    ensures program { BeginsNone seat.old.view seat.new.view }
 {
     let none = seat.list().items.is_empty();
     let mut word = table.step(seat, LwStep::Load(lock, None)).old;
@@ -191,6 +194,7 @@ pub fn tell<G: Guarded>(table: &LwTable<G>, seat: &mut LwSeat, taken: &ArrayVec<
     requires place { seat.old.view.place ≡ telling taken.now.items [] }
     ensures table { (seat.new.table_id ≡ seat.old.table_id) × (seat.new.id ≡ seat.old.id) }
     ensures view { WentBy (told_by taken.now.items) [] seat.old.view seat.new.view }
+    ensures program { BeginsNone seat.old.view seat.new.view }
 {
     for waiter in taken.as_slice() {
         let proc = proc_of(waiter);
@@ -207,7 +211,8 @@ fn wake<G: Guarded, R: Wait>(rt: &R, table: &LwTable<G>, seat: &mut LwSeat, lock
     requires place { seat.old.view.place ≡ TakingList lock ∷ Waking lock (updated_at seat.old.view.place) ∷ [] }
     ensures table { (seat.new.table_id ≡ seat.old.table_id) × (seat.new.id ≡ seat.old.id) }
     ensures view { Went [] seat.old.view seat.new.view }
-    ensures woken { WokenInCall lock seat.old.view seat.new.view }
+    ensures woken { Wakes lock seat.old.view seat.new.view }
+    ensures program { BeginsNone seat.old.view seat.new.view }
 {
     take_list(rt, table, seat, lock, None);
     let taken = part(&mut seat.list().items);
@@ -233,6 +238,7 @@ pub fn let_go<G: Guarded, R: Wait>(
     ensures table { (seat.new.table_id ≡ seat.old.table_id) × (seat.new.id ≡ seat.old.id) }
     ensures view { Released lock seat.old.view seat.new.view }
     ensures woken { WakesRightly lock begins seat.old.view seat.new.view }
+    ensures program { MakesFrom begins seat.old.view seat.new.view }
     ensures free { hold_in lock seat.new.view ≡ not_held }
 {
     let held = seat.mode_of(lock);

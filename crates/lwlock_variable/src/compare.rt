@@ -1,5 +1,6 @@
 //! One look at a lock and its variable.
 ghost use Rattle.std.specs.Prelude.{◌≡◌, ◌<◌, []};
+ghost use Rattle.lw_core.specs.Programs.{MakesFrom};
 ghost use Rattle.lwlock.specs.Calls.{Went};
 ghost use Rattle.lwlock_variable.specs.Waits.{BeginsComparing, Finds, behind, goes_on};
 
@@ -26,6 +27,7 @@ pub(crate) fn compare<G: Guarded, R: Wait>(
     ensures view { Went (goes_on result seat.old.view.surplus (behind begins seat.old.view.place)) seat.old.view seat.new.view }
     ensures finds { Finds lock old result seat.old.view seat.new.view }
     ensures surplus { seat.old.view.place ≡ [] → seat.old.view.surplus ≡ 0 }
+    ensures program { MakesFrom begins seat.old.view seat.new.view }
 {
     let seen = table.step(seat, LwStep::Peek(lock, begins)).old;
     if is_free_for(Mode::Shared, seen) {

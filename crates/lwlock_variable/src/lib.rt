@@ -5,10 +5,13 @@
 ghost use Rattle.std.specs.Prelude.{◌≡◌, ◌≢◌, ℕ, ◌<◌, true, [], None, Some, Option};
 ghost use Rattle.proc_table.specs.declared.Mode.TheVariants.{Exclusive, Shared};
 ghost use Rattle.lw_core.specs.declared.step.Call.{Call};
+ghost use Rattle.lw_core.specs.declared.step.Call.TheVariants as call;
 ghost use Rattle.lw_core.specs.declared.step.LwStep.TheVariants.{Peek, VarLoad, VarStore};
 ghost use Rattle.lw_core.specs.Machine.{LeavesLawful, hold_in, mode_in, not_held};
+ghost use Rattle.lw_core.specs.Programs.{Makes};
 ghost use Rattle.lw_core.specs.Words.{is_free};
 ghost use Rattle.lwlock.specs.Calls.{FoundInCall, Released, Went};
+ghost use Rattle.lwlock_variable.specs.Updates.{ReleaseWakes, UpdateWakes};
 ghost use Rattle.lwlock_variable.specs.Waits.{OnChanged, OnFree};
 
 mod compare;
@@ -53,6 +56,7 @@ pub fn wait_for_var<G: Guarded, R: Wait>(
     ensures read { OnChanged result (λ value. FoundInCall seat.old.view seat.new.view (VarLoad lock) value) }
     ensures holds { seat.new.view.holds ≡ seat.old.view.holds }
     ensures surplus { seat.new.view.surplus ≡ 0 }
+    ensures program { Makes (call.WaitForVar lock old) seat.old.view seat.new.view }
     ensures view { Went [] seat.old.view seat.new.view }
 {
     let begins = Some(Call::WaitForVar(lock, old));
@@ -83,6 +87,8 @@ pub fn update_var<G: Guarded, R: Wait>(
     ensures stored { (n : ℕ) × FoundInCall seat.old.view seat.new.view (VarStore lock value) n }
     ensures holds { seat.new.view.holds ≡ seat.old.view.holds }
     ensures surplus { seat.new.view.surplus ≡ 0 }
+    ensures program { Makes (call.UpdateVar lock value) seat.old.view seat.new.view }
+    ensures woken { UpdateWakes lock value seat.old.view seat.new.view }
     ensures view { Went [] seat.old.view seat.new.view }
 {
     let begins = Some(Call::UpdateVar(lock, value));
@@ -114,6 +120,8 @@ pub fn release_clear_var<G: Guarded, R: Wait>(
     ensures free { hold_in lock seat.new.view ≡ not_held }
     ensures others { (k : ℕ) → k ≢ lock → hold_in k seat.new.view ≡ hold_in k seat.old.view }
     ensures surplus { seat.new.view.surplus ≡ 0 }
+    ensures program { Makes (call.ReleaseClearVar lock value) seat.old.view seat.new.view }
+    ensures woken { ReleaseWakes lock value seat.old.view seat.new.view }
     ensures view { Released lock seat.old.view seat.new.view }
 {
     let begins = Some(Call::ReleaseClearVar(lock, value));

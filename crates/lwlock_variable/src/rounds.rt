@@ -4,6 +4,7 @@
 ghost use Rattle.std.specs.Prelude.{◌≡◌, ◌<◌, [], ◌∷◌};
 ghost use Rattle.lw_core.specs.declared.view.Frame.TheVariants.{GivingBack};
 ghost use Rattle.lw_core.specs.Machine.{resumed};
+ghost use Rattle.lw_core.specs.Programs.{BeginsNone};
 ghost use Rattle.lwlock.specs.Calls.{WentWith};
 ghost use Rattle.lwlock_variable.specs.Waits.{Ends, RoundAnswers, RoundEnds, queues};
 
@@ -36,6 +37,7 @@ pub(crate) fn run_round<G: Guarded, R: Wait>(
     ensures table { (seat.new.table_id ≡ seat.old.table_id) × (seat.new.id ≡ seat.old.id) }
     ensures view { RoundEnds lock old result seat.old.view seat.new.view }
     ensures answer { RoundAnswers lock old result seat.old.view seat.new.view }
+    ensures program { BeginsNone seat.old.view seat.new.view }
 {
     queue(rt, table, seat, lock, Want::UntilFree);
     table.step(seat, LwStep::SetReleaseOk(lock));
@@ -73,6 +75,7 @@ pub(crate) fn wait<G: Guarded, R: Wait>(
     ensures table { (seat.new.table_id ≡ seat.old.table_id) × (seat.new.id ≡ seat.old.id) }
     ensures view { WentWith (resumed result.surplus (GivingBack ∷ [])) result.surplus seat.old.view seat.new.view }
     ensures ends { Ends lock old result.answer seat.old.view seat.new.view }
+    ensures program { BeginsNone seat.old.view seat.new.view }
 {
     let mut surplus = 0;
     for _ in rt.forever() {

@@ -127,12 +127,7 @@ fn sleeps<R: Abort>(rt: &R, table: &LwTable<AnyWords>, seat: &mut LwSeat, lock: 
         false,
     );
     reads(rt, table, seat, lock, 0, queued, 0);
-    line(
-        rt,
-        table.step(seat, LwStep::Look(Some(Call::Down))),
-        0,
-        false,
-    );
+    line(rt, table.step(seat, LwStep::Look(None)), 0, false);
 }
 
 fn proc_of<R: Abort>(rt: &R, waiter: &Waiter) -> ProcNo

@@ -246,12 +246,7 @@ fn last_release_wakes_the_waiter(rt: HostRuntime) -> Result<(), Fail> {
         Mode::Exclusive,
         [0x2000_0002, 0x3000_0002, 0x7000_0002, 0x6000_0002],
     );
-    line(
-        &rt,
-        table.step(&mut two, LwStep::Look(Some(Call::Down))),
-        0,
-        false,
-    );
+    line(&rt, table.step(&mut two, LwStep::Look(None)), 0, false);
     line(
         &rt,
         table.step(&mut zero, LwStep::Sub(lock, Some(Call::Release(lock)))),

@@ -3,6 +3,7 @@ use Rattle.lw_core.specs.declared.view.Made.{Made}
 use Rattle.lw_core.specs.declared.view.Frame.TheVariants.{Trying}
 use Rattle.lw_core.specs.Machine.{top, outer}
 use Rattle.semaphore.specs.Calls.{StoresNone}
+use Rattle.lw_core.specs.Programs.{BeginsNone}
 use Rattle.lwlock.specs.Calls.{went}
 use Rattle.lwlock.proofs.attempt.attempt.Given as goal
 
@@ -14,4 +15,5 @@ invariant-loop g l = record {
   outer : outer l.seat.view.place ≡ outer l.fn.seat.view.place;
   view : (more : List Made) × (l.seat.view ≡ went l.fn.seat.view l.seat.view.place more);
   stores : StoresNone l.fn.seat.view l.seat.view;
+  program : BeginsNone l.fn.seat.view l.seat.view;
 }

@@ -3,8 +3,16 @@ use Rattle.lw_core.specs.declared.step.LwStep.TheVariants.{Load, SetReleaseOk}
 use Rattle.lw_core.specs.declared.view.Frame.TheVariants.{Attempting, Queued, Queueing, TakingList}
 use Rattle.lw_core.specs.declared.view.View.{View}
 use Rattle.lw_core.specs.Machine.{MayLoad, Place, answered, made, number_of, on_grant, on_refusal, on_waking, outer, resumed, want_of}
+use Rattle.lw_core.specs.Programs.{begins_call}
+use Rattle.lw_core.proofs.Programs.{count_kept}
 use Rattle.lwlock.proofs.Later.{freed_refused, granted_stands, held_on, refused_before, refused_since, refused_stands, stands_on, tries_again, wakes, was_granted, was_refused}
 use Rattle.lwlock.proofs.rounds.try_until_granted.Goals as goal
+
+pub returns-then-is_ok-clause-program : goal.returns-then-is_ok-clause-program
+returns-then-is_ok-clause-program g c = c.attempt.ensures.program ∙ c.loop.invariant.program
+
+pub returns-in-Granted-clause-program : goal.returns-in-Granted-clause-program
+returns-in-Granted-clause-program g c = c.run_round.ensures.program ∙ (c.attempt.ensures.program ∙ c.loop.invariant.program)
 
 pub returns-then-is_ok-clause-view : goal.returns-then-is_ok-clause-view
 returns-then-is_ok-clause-view g c =
@@ -55,5 +63,7 @@ loop-preserved g c =
       refused = λ _.
           refused_since l m v b w (refused_before l m v a b (freed_refused (number_of a.own) l m c.in-Woken.seen a b freed.1 freed.2) queues.0 (ap (λ (x : View). x.steps) queues.1)) (made (SetReleaseOk l) c.step-word.result.old ∷ made (Load l None) n ∷ [])
           (ap (λ (x : View). x.steps) c.step-word-in-loop.ensures.view ∙ (ap (λ (x : View). x.steps ++ made (Load l None) n ∷ []) c.step-word.ensures.view ∙ append_assoc b.steps (made (SetReleaseOk l) c.step-word.result.old ∷ []) (made (Load l None) n ∷ [])));
+      program = count_kept begins_call c.step-word.new.seat.view w (Load l None) n (ap (λ (x : View). x.steps) c.step-word-in-loop.ensures.view) refl
+          ∙ (count_kept begins_call b c.step-word.new.seat.view (SetReleaseOk l) c.step-word.result.old (ap (λ (x : View). x.steps) c.step-word.ensures.view) refl ∙ (c.run_round.ensures.program ∙ (c.attempt.ensures.program ∙ c.loop.invariant.program)));
       view = (stands.0 + 1, ((λ _. omega arith, λ _. refl), tries_again l m c.step-word.result.old n stands.0 (c.loop.surplus + c.in-Woken.more) c.step-word.new.seat.list c.step-word-in-loop.new.seat.list v b c.step-word.new.seat.view w slept c.step-word.ensures.view c.step-word-in-loop.ensures.view));
     }

@@ -3,6 +3,8 @@ use Rattle.lw_core.specs.declared.step.LwStep.TheVariants.{Peek, Unlock, VarLoad
 use Rattle.lw_core.specs.declared.view.Made.{Made}
 use Rattle.lw_core.specs.declared.view.View.{View}
 use Rattle.lw_core.specs.Machine.{Place, left_at, made, MaySendHome, number_of, on_conflict, on_outcome}
+use Rattle.lw_core.specs.Programs.{begins_call}
+use Rattle.lw_core.proofs.Programs.{count_kept, part_first, part_on}
 use Rattle.lwlock.specs.Calls.{went}
 use Rattle.lwlock_variable.specs.Waits.{behind}
 use Rattle.lwlock_variable.proofs.Looks.{compares, to_return}
@@ -48,3 +50,20 @@ returns-else-value-old-clause-finds g c =
     let l : ℕ = c.args.lock in let n : ℕ = c.step-seen.result.old in let taken = c.take_list.ensures.view in
     let is = ap (λ (a : View). a.steps) (returns-else-value-old-clause-view g c).1 in
     (c.if-value-old.false, (made (Peek l c.args.begins) n ∷ taken.0, (made (Unlock l false) c.step.result.old ∷ [], is)))
+
+pub returns-then-is_free_for-clause-program : goal.returns-then-is_free_for-clause-program
+returns-then-is_free_for-clause-program g c = part_first c.args.begins (Peek c.args.lock c.args.begins) c.step-seen.result.old c.args.seat.now.view c.step-seen.new.seat.view (ap (λ (a : View). a.steps) c.step-seen.ensures.view) refl refl
+
+pub returns-then-value-old-clause-program : goal.returns-then-value-old-clause-program
+returns-then-value-old-clause-program g c =
+    let l : ℕ = c.args.lock in let b = c.args.begins in let v : View = c.args.seat.now.view in let a = c.step-seen.new.seat.view in let u = c.take_list.new.seat.view in let d = c.step-value.new.seat.view in let w = c.step.new.seat.view in let taken = c.take_list.ensures.view in
+    let looked = part_first b (Peek l b) c.step-seen.result.old v a (ap (λ (x : View). x.steps) c.step-seen.ensures.view) refl refl in let took = part_on b v a u looked taken.0 (ap (λ (x : View). x.steps) taken.1) c.take_list.ensures.program in
+    let n : ℕ = c.step-value.result.old in let o : ℕ = c.step.result.old in let was_read = ap (λ (x : View). x.steps) c.step-value.ensures.view in let home = ap (λ (x : View). x.steps) c.step.ensures.view in
+    part_on b v d w (part_on b v u d took (made (VarLoad l) n ∷ []) was_read (count_kept begins_call u d (VarLoad l) n was_read refl)) (made (Unlock l false) o ∷ []) home (count_kept begins_call d w (Unlock l false) o home refl)
+
+pub returns-else-value-old-clause-program : goal.returns-else-value-old-clause-program
+returns-else-value-old-clause-program g c =
+    let l : ℕ = c.args.lock in let b = c.args.begins in let v : View = c.args.seat.now.view in let a = c.step-seen.new.seat.view in let u = c.take_list.new.seat.view in let d = c.step-value.new.seat.view in let w = c.step.new.seat.view in let taken = c.take_list.ensures.view in
+    let looked = part_first b (Peek l b) c.step-seen.result.old v a (ap (λ (x : View). x.steps) c.step-seen.ensures.view) refl refl in let took = part_on b v a u looked taken.0 (ap (λ (x : View). x.steps) taken.1) c.take_list.ensures.program in
+    let n : ℕ = c.step-value.result.old in let o : ℕ = c.step.result.old in let was_read = ap (λ (x : View). x.steps) c.step-value.ensures.view in let home = ap (λ (x : View). x.steps) c.step.ensures.view in
+    part_on b v d w (part_on b v u d took (made (VarLoad l) n ∷ []) was_read (count_kept begins_call u d (VarLoad l) n was_read refl)) (made (Unlock l false) o ∷ []) home (count_kept begins_call d w (Unlock l false) o home refl)
