@@ -68,6 +68,7 @@ impl LwSeat {
     }
 
     /// The mode in which the seat holds the lock; None exactly where it doesn't hold it.
+    #[inline(always)]
     pub fn mode_of(&self, lock: LockNo) -> Option<Mode>
         ensures { result ≡ mode_in lock self.now.view }
     {
@@ -75,6 +76,7 @@ impl LwSeat {
     }
 
     /// The mode in which the seat holds the step's lock.
+    #[inline(always)]
     pub(crate) fn held_for(&self, step: &LwStep) -> Option<Mode>
         ensures { result ≡ held_for step.now self.now.view }
     {
@@ -113,6 +115,7 @@ impl LwSeat {
 }
 
 /// Keeps the mode of a step's lock.
+#[inline(always)]
 pub(crate) fn keep_mode(modes: &mut [Option<Mode>; 200], lock: Option<LockNo>, mode: Option<Mode>)
     ensures { modes.new ≡ modes_then lock mode modes.old }
 {

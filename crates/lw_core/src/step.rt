@@ -104,6 +104,7 @@ pub(crate) enum WordOp {
 
 impl LwStep {
     /// The lock that the step is on.
+    #[inline(always)]
     pub(crate) fn lock(&self) -> Option<LockNo>
         ensures { result ≡ lock_of self.now }
     {
@@ -130,6 +131,7 @@ impl LwStep {
     }
 
     /// The word that a step of this backend is on.
+    #[inline(always)]
     pub(crate) fn word(&self, size: Size, own: ProcNo) -> usize
         requires { size.locks ≤ 200 }
         ensures { result ≡ word_of size own self.now }
@@ -157,6 +159,7 @@ impl LwStep {
     }
 
     /// The operation, for a seat that has the step's lock in this mode.
+    #[inline(always)]
     pub(crate) fn op(&self, held: Option<Mode>) -> WordOp
         ensures { result ≡ op_of self.now held }
     {
@@ -190,6 +193,7 @@ impl LwStep {
     }
 
     /// Whether the word was changed, or exchanged for itself.
+    #[inline(always)]
     pub(crate) fn exchanges(&self, found: u64) -> bool
         ensures { result ≡ exchanges self.now found }
     {
@@ -208,6 +212,7 @@ impl LwStep {
     }
 
     /// The mode in which the seat has the step's lock afterwards.
+    #[inline(always)]
     pub(crate) fn mode_after(&self, held: Option<Mode>, found: u64) -> Option<Mode>
         ensures { result ≡ mode_then self.now held found }
     {
@@ -219,6 +224,7 @@ impl LwStep {
     }
 
     /// 1 where the step pokes somebody, and else 0.
+    #[inline(always)]
     pub(crate) fn pokes(&self) -> u32
         ensures { result ≡ pokes_by self.now }
     {

@@ -114,6 +114,7 @@ impl<G: Guarded> LwTable<G> {
     /// Makes one step on one word. It answers the word before it, and whether an exchange took
     /// place; an exchange that didn't is a retry. A step that sets LOCKED where it wasn't set takes
     /// the lock's list in hand; one that clears it sends the list home as the seat changed it.
+    #[inline(always)]
     pub fn step(&self, seat: &mut LwSeat, step: LwStep) -> LwSeen
         requires table { seat.old.table_id ≡ self.now.table_id }
         requires range { IsInRange (size_of self.now) step }
@@ -140,6 +141,7 @@ impl<G: Guarded> LwTable<G> {
     }
 
     // Makes the step on its word. The slot of a list that goes home has it already.
+    #[inline(always)]
     fn make<K: Doing>(
         &self,
         seat: &mut Seat<Waiters, View>,
@@ -164,6 +166,7 @@ impl<G: Guarded> LwTable<G> {
     }
 
     // Sets LOCKED. Where it wasn't set the list leaves its slot.
+    #[inline(never)]
     fn take_list(&self, seat: &mut LwSeat, lock: LockNo, step: LwStep) -> u64
         requires table { seat.old.table_id ≡ self.now.table_id }
         requires range { lock < self.now.locks }
@@ -190,6 +193,7 @@ impl<G: Guarded> LwTable<G> {
 
     // Puts the list into its slot and makes a step that frees it. Where an exchange fails the list
     // is in hand again.
+    #[inline(never)]
     fn send_list(&self, seat: &mut LwSeat, lock: LockNo, step: LwStep) -> u64
         requires table { seat.old.table_id ≡ self.now.table_id }
         requires range { lock < self.now.locks }
@@ -218,6 +222,7 @@ impl<G: Guarded> LwTable<G> {
     }
 
     // Makes a step that moves no list.
+    #[inline(always)]
     fn step_apart(&self, seat: &mut LwSeat, step: LwStep) -> u64
         requires table { seat.old.table_id ≡ self.now.table_id }
         requires range { IsInRange (size_of self.now) step }

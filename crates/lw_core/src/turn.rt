@@ -9,6 +9,7 @@ use crate::view::{Size, View, Waiters};
 use atomic_table::{Seat, Shared};
 
 /// Makes the step, which is on this word, by this operation, and answers the word before it.
+#[inline(always)]
 pub(crate) fn turn<K: Doing, G: Guarded>(
     shared: &Shared<Waiters, View, Size, LwRule<G>>,
     seat: &mut Seat<Waiters, View>,
