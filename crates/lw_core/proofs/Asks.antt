@@ -98,14 +98,14 @@ module _ (lawful : ℕ → List ℕ → Type 0) (z : Size) where
       )
 
   -- seat 0 looks at the number that it may draw
-  pub looks_allowed : (slots id : ℕ) (me : Sat) → Allows (Rule lawful z) slots id me 0 (λ n. n) (looks about me)
+  pub looks_allowed : (slots id : ℕ) (me : Sat) → Allows (Rule lawful z) slots id me 0 (λ n. n) (looks z about me)
   looks_allowed slots id me s r _ at _ = (
     me.0,
     keeps,
     tt,
     subst (λ (x : List View). Rule lawful z record { words = set s.words 0 (get_or s.words 0 0); homes = s.homes; views = x }) (sym (set_again s.views id me.0 at))
         (subst (λ (x : List ℕ). Rule lawful z record { words = x; homes = s.homes; views = s.views }) (sym (set-get_or s.words 0 0)) r),
-    (refl, refl, λ zero_is. (r.roster.drawer id (numbers_of me.0) (at_seen numbers_of s.views id me.0 (numbers_of me.0) at refl) zero_is).up_to),
+    (refl, refl, λ zero_is. ((r.roster.drawer id (numbers_of me.0) (at_seen numbers_of s.views id me.0 (numbers_of me.0) at refl) zero_is).up_to, r.roster.few)),
   )
 
   pub draws_allowed : (slots id : ℕ) (me : Sat) → me.0.own ≡ Some 0 → me.0.pending ≡ None → me.0.drawn + 1 < z.procs → Allows (Rule lawful z) slots id me 0 (λ n. (n + 1) % 2 ^ 64) (draws_one about me)

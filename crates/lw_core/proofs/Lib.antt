@@ -29,6 +29,7 @@ pub mod FreeLock
 pub mod Watching
 pub mod Variable
 pub mod RuleKeeps
+pub mod InRuns
 pub mod Exclusion
 pub mod NoLostWake
 pub mod Moves

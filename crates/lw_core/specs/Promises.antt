@@ -12,7 +12,7 @@ use Rattle.lw_core.specs.Words.{Waiters, word_count, guarded, Conflicts, Opens}
 use Rattle.lw_core.specs.Machine.{LwState, HoldsNothing, mode_in, fresh}
 use Rattle.lw_core.specs.WaitLists.{AllEmpty}
 use Rattle.lw_core.specs.Rule.{Rule}
-use Rattle.lw_core.specs.Runs.{Steps, Event, Turns}
+use Rattle.lw_core.specs.Runs.{Steps, Event, Turns, Run}
 
 -- a state that meets the rule, and one step of any kind or one move, give a state that meets the part
 abbrev pub KeptByEach : (ℕ → List ℕ → Type 0) → Size → (LwState → Type 0) → Type 0
@@ -21,6 +21,10 @@ KeptByEach lawful z Part = (s t : LwState) (e : Event) → Rule lawful z s → T
 -- the state of a new table: the opening words, lists on which nobody is, and seat 0
 abbrev pub IsOpening : Size → LwState → Type 0
 IsOpening z s = (words : List ℕ) × (lists : List Waiters) × (length words ≡ word_count z) × Opens z.locks words × (length lists ≡ z.locks) × AllEmpty lists × (s ≡ opening {S = Waiters} words lists (fresh (Some 0)))
+
+-- each state that a run from a new table reaches, by steps of any seats and moves in any order, is so
+abbrev pub HoldsInRuns : (ℕ → List ℕ → Type 0) → Size → (LwState → Type 0) → Type 0
+HoldsInRuns lawful z IsSo = (s t : LwState) (events : List Event) → IsOpening z s → Run lawful z s events t → IsSo t
 
 -- no two backends hold one lock in conflicting modes
 abbrev pub HoldersAgree : Size → LwState → Type 0

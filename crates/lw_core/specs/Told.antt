@@ -66,9 +66,9 @@ HandFollows k v n found = lock_in_hand (hand_at (next k v n found).place) ≡ ha
 abbrev pub does : (ℕ → List ℕ → Type 0) → Size → LwStep → Step Waiters → Sat → ℕ → Sat → Type 0
 does lawful z k st m n m' = (found : List Waiter) × (m'.0 ≡ next k m.0 n found) × (m'.1 ≡ carried_after m.1 (act_of k n found)) × Tells lawful z k m.0 n found × HandFollows k m.0 n found
 
--- seat 0 reads the number that it may draw
-abbrev pub looks : Step Waiters → Sat → ℕ → Sat → Type 0
-looks st m n m' = (m'.0 ≡ m.0) × (m'.1 ≡ m.1) × (m.0.own ≡ Some 0 → n ≡ m.0.drawn + 1)
+-- seat 0 reads the number that it may draw, if that is below the number of backends
+abbrev pub looks : Size → Step Waiters → Sat → ℕ → Sat → Type 0
+looks z st m n m' = (m'.0 ≡ m.0) × (m'.1 ≡ m.1) × (m.0.own ≡ Some 0 → (n ≡ m.0.drawn + 1) × (n ≤ z.procs))
 
 abbrev pub draws_one : Step Waiters → Sat → ℕ → Sat → Type 0
 draws_one st m n m' = (m'.0 ≡ drew_one m.0) × (m'.1 ≡ m.1)

@@ -4,7 +4,7 @@ ghost use Rattle.lw_core.specs.Machine.{LwState};
 ghost use Rattle.lw_core.specs.Rule.{Rule, NumbersStand, PlacesFit, EachCountsHolders, EachGuardedIsLawful, EachListInOneHand, EachHandInside, EachListedOnce, EachWaitingTells, EachFlagCovers, EachReleaseOkIsOwed, EachWakeIsConserved, EachMarkerPosts, EachFreeLockIsAnswered, EachVariableIsAnnounced};
 ghost use Rattle.lw_core.specs.Runs.{Event, Run};
 ghost use Rattle.lw_core.specs.NoLostWake.{NoWakeIsLost, NoFreeLockIsSleptFor, NoStaleSleep};
-ghost use Rattle.lw_core.specs.Promises.{KeptByEach, IsOpening, HoldersAgree, UnheldAreLawful, LastHoldsAlone, WordsStand};
+ghost use Rattle.lw_core.specs.Promises.{KeptByEach, IsOpening, HoldsInRuns, HoldersAgree, UnheldAreLawful, LastHoldsAlone, WordsStand};
 
 use crate::rule::Guarded;
 use crate::view::Size;
@@ -99,8 +99,38 @@ pub fn words_stand_under_a_holder<G: Guarded>(size: Size)
 /// What the rule says of those who sleep: nobody is asleep off every list with no wake pending, nor
 /// on the list of a lock that nobody holds, releases or answers for, nor on a list for a change of
 /// a variable that was made, while nobody updates the lock.
-pub fn no_wake_is_lost<G: Guarded>(size: Size)
+pub fn the_rule_loses_no_wake<G: Guarded>(size: Size)
     ensures pending { (s : LwState) → Rule G.lawful size s → NoWakeIsLost size s }
     ensures answered { (s : LwState) → Rule G.lawful size s → NoFreeLockIsSleptFor size s }
     ensures current { (s : LwState) → Rule G.lawful size s → NoStaleSleep size s }
+{}
+
+/// In every run from a new table, no two backends hold one lock in conflicting modes.
+pub fn holders_exclude<G: Guarded>(size: Size)
+    requires locks { size.locks ≤ 200 }
+    requires procs { (0 < size.procs) × (size.procs ≤ 64) }
+    ensures { HoldsInRuns G.lawful size (HoldersAgree size) }
+{}
+
+/// In every run from a new table, no backend is asleep off every list with no wake pending.
+pub fn no_wake_is_lost<G: Guarded>(size: Size)
+    requires locks { size.locks ≤ 200 }
+    requires procs { (0 < size.procs) × (size.procs ≤ 64) }
+    ensures { HoldsInRuns G.lawful size (NoWakeIsLost size) }
+{}
+
+/// In every run from a new table, no backend sleeps on the list of a lock that nobody holds, unless
+/// somebody releases it or answers for it.
+pub fn free_locks_are_answered<G: Guarded>(size: Size)
+    requires locks { size.locks ≤ 200 }
+    requires procs { (0 < size.procs) × (size.procs ≤ 64) }
+    ensures { HoldsInRuns G.lawful size (NoFreeLockIsSleptFor size) }
+{}
+
+/// In every run from a new table, no backend sleeps on a list for a change of a lock's variable that
+/// was made, unless somebody updates the lock.
+pub fn variables_are_announced<G: Guarded>(size: Size)
+    requires locks { size.locks ≤ 200 }
+    requires procs { (0 < size.procs) × (size.procs ≤ 64) }
+    ensures { HoldsInRuns G.lawful size (NoStaleSleep size) }
 {}

@@ -55,12 +55,14 @@ impl<K: Doing, G: Guarded> Play<Waiters, View> for Does<K, G> {
     ghost then = { does G.lawful K.size K.step };
 }
 
-pub struct Looks;
+pub struct Looks<K> {
+    doing: PhantomData<K>,
+}
 
-impl Play<Waiters, View> for Looks {
+impl<K: Doing> Play<Waiters, View> for Looks<K> {
     ghost use Rattle.lw_core.specs.Told.{looks};
 
-    ghost then = { looks };
+    ghost then = { looks K.size };
 }
 
 pub struct DrawsOne;

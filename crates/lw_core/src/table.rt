@@ -95,11 +95,13 @@ impl<G: Guarded> LwTable<G> {
             × (s.view ≡ fresh (Some (from.old.view.drawn + 1)))) }
         ensures empty { IfOk result (λ s. HoldsNothing s.view) }
         ensures drew { OnOk result (from.new.view ≡ stays (drew_one from.old.view)) }
-        ensures refused { IfErr result (λ e. e.drawn ≡ from.old.view.drawn + 1) }
+        ensures refused { IfErr result (λ e. (e.drawn ≡ self.now.procs)
+            × (e.drawn ≡ from.old.view.drawn + 1)) }
         ensures as_before { OnErr result (from.new.view ≡ from.old.view) }
+        ensures list { from.new.list ≡ from.old.list }
     {
         let shared = &self.table.shared;
-        let next = shared.load::<Looks>(&mut from.seat, 0);
+        let next = self.next_number::<Brand>(&mut from.seat);
         if next >= u64::from(self.size.procs) {
             return Err(NoMoreProcs { drawn: next });
         }
@@ -109,6 +111,19 @@ impl<G: Guarded> LwTable<G> {
         shared.fetch_add::<DrawsOne>(&mut from.seat, 0, 1);
         let seat = shared.split_seat::<Newcomer>(&mut from.seat);
         Ok(LwSeat::new(seat, number))
+    }
+
+    // The next number, which seat 0 may draw.
+    fn next_number<K: Doing>(&self, from: &mut Seat<Waiters, View>) -> u64
+        requires table { from.old.table_id ≡ self.now.table_id }
+        requires zero { from.old.me.0.own ≡ Some 0 }
+        requires size { K.size ≡ size_of self.now }
+        ensures table { (from.new.table_id ≡ from.old.table_id) × (from.new.id ≡ from.old.id) }
+        ensures seat { from.new.me ≡ from.old.me }
+        ensures next { result ≡ from.old.me.0.drawn + 1 }
+        ensures few { result ≤ self.now.procs }
+    {
+        self.table.shared.load::<Looks<K>>(from, 0)
     }
 
     /// Makes one step on one word. It answers the word before it, and whether an exchange took
@@ -292,6 +307,7 @@ impl<G: Guarded> LwTable<G> {
         requires empty { HoldsNothing from.view }
         ensures table { (into.new.table_id ≡ into.old.table_id) × (into.new.id ≡ into.old.id) }
         ensures view { into.new.view ≡ both into.old.view from.view }
+        ensures list { into.new.list ≡ into.old.list }
     {
         let LwSeat {
             seat,

@@ -1,11 +1,7 @@
-use Rattle.lw_core.proofs.NoLostWake.{no_wake_is_lost, no_free_lock_is_slept_for, no_stale_sleep}
+use Rattle.lw_core.specs.NoLostWake.{NoWakeIsLost}
+use Rattle.lw_core.proofs.NoLostWake.{no_wake_is_lost}
+use Rattle.lw_core.proofs.InRuns.{in_runs}
 use Rattle.lw_core.proofs.laws.no_wake_is_lost.Goals as goal
 
-pub returns-clause-pending : goal.returns-clause-pending
-returns-clause-pending g c = no_wake_is_lost g.G.Guarded.lawful c.args.size
-
-pub returns-clause-answered : goal.returns-clause-answered
-returns-clause-answered g c = no_free_lock_is_slept_for g.G.Guarded.lawful c.args.size
-
-pub returns-clause-current : goal.returns-clause-current
-returns-clause-current g c = no_stale_sleep g.G.Guarded.lawful c.args.size
+pub returns : goal.returns
+returns g c = in_runs g.G.Guarded.lawful c.args.size g.G.Guarded.zeros c.requires.locks c.requires.procs.0 c.requires.procs.1 (NoWakeIsLost c.args.size) (no_wake_is_lost g.G.Guarded.lawful c.args.size)
