@@ -6,6 +6,7 @@ pub mod ShutdownWakes
 pub mod Nesting
 pub mod RuleKept
 pub mod Untouched
+pub mod WordsAreMade
 pub mod SeatsKept
 pub mod Openings
 pub mod Asks

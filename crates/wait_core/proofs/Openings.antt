@@ -77,6 +77,7 @@ module _ {C : Type 0} (holds : List ℕ → List (PartyView C) → List ℕ → 
     may = λ p below. zero_at (may_at p) (omega arith) (omega arith) ∙ sym (none_there p may_sleep refl);
     latches = λ p below come up. let a = none_there p past_latch refl in absurd (omega arith);
     shutdown = λ p below come up. let a = none_there p past_shutdown refl in absurd (omega arith);
+    made = λ i above below. let a = zero_at i above below in omega arith;
     slots = λ k y e. opened_at xs k y new.each e;
     left = only_numbered;
     client = subst (λ (ws : List ℕ). holds ws (newcomer c (Some 0) ∷ []) (phases z phase)) (sym ((λ i. drop (sym long i) (machine ++ opened f count)) ∙ drop-append_seam machine (opened f count))) kept;

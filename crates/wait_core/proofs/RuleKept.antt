@@ -18,9 +18,10 @@ use Rattle.seat_roster.specs.Totals.{total}
 use Rattle.seat_roster.specs.Roster.{Numbers, Roster, times_in, stands}
 use Rattle.wait_core.specs.Words.{byte_at, client_base, phases}
 use Rattle.wait_core.specs.Machine.{WaitState, Place, number_of, word_of, becomes, next, Permits, Allowed, after}
-use Rattle.wait_core.specs.Seating.{Standing, numbers_of, standing_of, party_of}
+use Rattle.wait_core.specs.Seating.{Standing, numbers_of, standing_of, doings_of, party_of}
 use Rattle.wait_core.specs.Places.{PlacesFit, IsNested}
 use Rattle.wait_core.specs.LeftAreFree.{LeftAreFree}
+use Rattle.wait_core.specs.WordsAreMade.{WordsAreMade}
 use Rattle.wait_core.specs.Rule.{Flags, Sized, Rule}
 use Rattle.seat_roster.proofs.Totals.{total_map, total_le}
 use Rattle.seat_roster.proofs.Stretches.{unseen}
@@ -31,6 +32,7 @@ use Rattle.wait_core.proofs.Nesting.{nested_after}
 use Rattle.wait_core.proofs.MaySleepIsMarked.{may_kept}
 use Rattle.wait_core.proofs.SetLatchWakes.{latch_kept}
 use Rattle.wait_core.proofs.ShutdownWakes.{shutdown_kept}
+use Rattle.wait_core.proofs.WordsAreMade.{made_step}
 
 -- each step is on a word between the next number and the client's
 pub word_inside : (z : Size) (o : ℕ) (k : WaitStep) (p : Place) → o < z.procs → Permits z k (Some o) p → (0 < word_of z o k) × (word_of z o k < client_base z)
@@ -150,6 +152,7 @@ module _ {C : Type 0} (holds : List ℕ → List (PartyView C) → List ℕ → 
             (latch_kept z s.words (map standing_of s.views) one id o (standing_of v) (standing_of w) at' own own below (omega arith) r.may r.latches k ok e refl);
         shutdown = subst (Rattle.wait_core.specs.ShutdownWakes.ShutdownWakes z (set s.words i (becomes k n))) seen
             (shutdown_kept z s.words (map standing_of s.views) one id o (standing_of v) (standing_of w) at' own own below (omega arith) r.shutdown k ok e refl);
+        made = subst (WordsAreMade z (set s.words i (becomes k n))) (sym (map-set doings_of s.views id w)) (made_step z s.words (map doings_of s.views) id (doings_of v) o k (at_map doings_of s.views id v at) own (omega arith) r.made);
         slots = r.slots;
         left = subst LeftAreFree (sym (unseen party_of s.views id v w at refl)) r.left;
         client = subst (λ (x : List ℕ × List (PartyView C)). holds x.0 x.1 (phases z phase))

@@ -14,13 +14,15 @@ use Rattle.seat_roster.specs.Roster.{Numbers, Roster, count as numbers_in, numbe
 use Rattle.wait_core.specs.Words.{client_base, phases}
 use Rattle.wait_core.specs.Machine.{WaitState}
 use Rattle.wait_core.specs.Parties.{with_client, newcomer, joined, left_over, IsStep, IsDraw, IsJoin}
-use Rattle.wait_core.specs.Seating.{Standing, numbers_of, standing_of, party_of, client_moved, with_drawn, stays, comes, took_in, spent_view}
+use Rattle.wait_core.specs.Seating.{Standing, Doings, numbers_of, standing_of, doings_of, party_of, client_moved, with_drawn, stays, comes, took_in, spent_view}
 use Rattle.wait_core.specs.LeftAreFree.{IsFree, LeftAreFree}
+use Rattle.wait_core.specs.WordsAreMade.{WordsAreMade}
 use Rattle.wait_core.specs.Promises.{LastHoldsAlone}
 use Rattle.wait_core.specs.Rule.{SeatsAreCounted, Rule}
 use Rattle.seat_roster.proofs.Totals.{total_set, total_snoc, total_at, total_two}
 use Rattle.seat_roster.proofs.Stretches.{unseen, from_seen, each_set, each_more}
 use Rattle.seat_roster.proofs.Numbers.{roster_drew, roster_gave, roster_took, pending_inside}
+use Rattle.wait_core.proofs.WordsAreMade.{made_same, made_snoc, made_joined}
 use Rattle.wait_core.proofs.Untouched.{Agree, SameCounts, counts_are, counts_snoc, counts_idle, flags_same, may_same, latches_same, shutdown_same, places_snoc, places_idle}
 
 -- a seat with a number isn't one that was joined
@@ -60,6 +62,7 @@ module _ {C : Type 0} (holds : List ℕ → List (PartyView C) → List ℕ → 
         may = may_same z s.words (set s.words (b + k) (f n)) (map standing_of s.views) (map standing_of (set s.views id w)) agree same r.may;
         latches = latches_same z s.words (set s.words (b + k) (f n)) (map standing_of s.views) (map standing_of (set s.views id w)) agree same r.latches;
         shutdown = shutdown_same z s.words (set s.words (b + k) (f n)) (map standing_of s.views) (map standing_of (set s.views id w)) agree same r.shutdown;
+        made = subst (WordsAreMade z (set s.words (b + k) (f n))) (sym (unseen doings_of s.views id v w at refl)) (made_same z s.words (set s.words (b + k) (f n)) (map doings_of s.views) agree r.made);
         slots = r.slots;
         left = subst LeftAreFree (sym (map-set party_of s.views id w)) (each_set WasLeft (map party_of s.views) id (party_of w) r.left (λ none. absurd (has_number v.own p own none)));
         client = subst (λ (x : List ℕ × List (PartyView C)). holds x.0 x.1 (phases z phase))
@@ -88,6 +91,7 @@ module _ {C : Type 0} (holds : List ℕ → List (PartyView C) → List ℕ → 
         may = may_same z s.words (set s.words 0 x) (map standing_of s.views) (map standing_of (set s.views id w)) agree same r.may;
         latches = latches_same z s.words (set s.words 0 x) (map standing_of s.views) (map standing_of (set s.views id w)) agree same r.latches;
         shutdown = shutdown_same z s.words (set s.words 0 x) (map standing_of s.views) (map standing_of (set s.views id w)) agree same r.shutdown;
+        made = subst (WordsAreMade z (set s.words 0 x)) (sym (unseen doings_of s.views id v w at refl)) (made_same z s.words (set s.words 0 x) (map doings_of s.views) agree r.made);
         slots = r.slots;
         left = subst LeftAreFree (sym (unseen party_of s.views id v w at refl)) r.left;
         client = subst (λ (y : List ℕ × List (PartyView C)). holds y.0 y.1 (phases z phase)) (λ j. (sym (drop-set-lt (client_base z) s.words 0 x (omega arith)) j, sym (unseen party_of s.views id v w at refl) j)) r.client;
@@ -118,6 +122,7 @@ module _ {C : Type 0} (holds : List ℕ → List (PartyView C) → List ℕ → 
         may = may_same z s.words s.words (map standing_of s.views) (map standing_of (vs ++ w ∷ [])) agree same r.may;
         latches = latches_same z s.words s.words (map standing_of s.views) (map standing_of (vs ++ w ∷ [])) agree same r.latches;
         shutdown = shutdown_same z s.words s.words (map standing_of s.views) (map standing_of (vs ++ w ∷ [])) agree same r.shutdown;
+        made = subst (WordsAreMade z s.words) (sym (map-append doings_of vs (w ∷ []) ∙ ap (λ (l : List Doings). l ++ record { own = v.pending; steps = []; inherited = [] } ∷ []) (unseen doings_of s.views id v (stays v) at refl))) (made_snoc z s.words (map doings_of s.views) v.pending r.made);
         slots = r.slots;
         left = subst LeftAreFree parties (each_more WasLeft (map party_of s.views) (newcomer c (Some n)) r.left (λ none. record { attached = refl; elections = refl }));
         client = subst (λ (l : List (PartyView C)). holds (drop (client_base z) s.words) l (phases z phase)) parties
@@ -152,6 +157,8 @@ module _ {C : Type 0} (holds : List ℕ → List (PartyView C) → List ℕ → 
         may = may_same z s.words s.words (map standing_of s.views) (map standing_of (set vs other y)) agree same r.may;
         latches = latches_same z s.words s.words (map standing_of s.views) (map standing_of (set vs other y)) agree same r.latches;
         shutdown = shutdown_same z s.words s.words (map standing_of s.views) (map standing_of (set vs other y)) agree same r.shutdown;
+        made = subst (WordsAreMade z s.words) (sym (map-set doings_of vs other y ∙ ap (λ (l : List Doings). set l other record { own = None; steps = []; inherited = [] }) (map-set doings_of s.views id x)))
+            (made_joined z s.words (map doings_of s.views) id other (doings_of v) (doings_of w) apart (at_map doings_of s.views id v at) (at_map doings_of s.views other w there) r.made);
         slots = r.slots;
         left = subst LeftAreFree parties (each_set WasLeft (set (map party_of s.views) id (joined both (party_of v) (party_of w))) other (left_over c)
             (each_set WasLeft (map party_of s.views) id (joined both (party_of v) (party_of w)) r.left (λ none. absurd (has_number v.own p own none))) (λ none. record { attached = refl; elections = refl }));

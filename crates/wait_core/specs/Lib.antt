@@ -8,6 +8,7 @@ pub mod MaySleepIsMarked
 pub mod SetLatchWakes
 pub mod ShutdownWakes
 pub mod ClientHolds
+pub mod WordsAreMade
 pub mod Slots
 pub mod LeftAreFree
 pub mod Rule

@@ -6,12 +6,13 @@ use Rattle.seat_roster.specs.Totals.{total}
 use Rattle.seat_roster.specs.Roster.{Numbers, Roster, one_if}
 use Rattle.wait_core.specs.Words.{client_base}
 use Rattle.wait_core.specs.Machine.{WaitState}
-use Rattle.wait_core.specs.Seating.{numbers_of, standing_of, party_of}
+use Rattle.wait_core.specs.Seating.{numbers_of, standing_of, doings_of, party_of}
 use Rattle.wait_core.specs.Places.{PlacesFit}
 use Rattle.wait_core.specs.MaySleepIsMarked.{MaySleepIsMarked}
 use Rattle.wait_core.specs.SetLatchWakes.{SetLatchWakes}
 use Rattle.wait_core.specs.ShutdownWakes.{ShutdownWakes}
 use Rattle.wait_core.specs.ClientHolds.{ClientHolds}
+use Rattle.wait_core.specs.WordsAreMade.{WordsAreMade}
 use Rattle.wait_core.specs.Slots.{SlotsStand}
 use Rattle.wait_core.specs.LeftAreFree.{LeftAreFree}
 
@@ -39,6 +40,7 @@ module _ {C : Type 0} (holds : List ℕ → List (PartyView C) → List ℕ → 
     pub may : MaySleepIsMarked z.procs s.words (map standing_of s.views)
     pub latches : SetLatchWakes z.procs s.words (map standing_of s.views)
     pub shutdown : ShutdownWakes z s.words (map standing_of s.views)
+    pub made : WordsAreMade z s.words (map doings_of s.views)
     pub slots : SlotsStand phase s.homes
     pub left : LeftAreFree (map party_of s.views)
     pub client : ClientHolds holds z phase s.words (map party_of s.views)

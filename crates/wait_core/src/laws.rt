@@ -8,7 +8,8 @@ ghost use Rattle.wait_core.specs.declared.view.WaitView.{WaitView};
 ghost use Rattle.wait_core.specs.Words.{may_at, client_base, client_words};
 ghost use Rattle.wait_core.specs.Machine.{WaitState, top, bit, Allowed, after};
 ghost use Rattle.wait_core.specs.Places.{may_sleep};
-ghost use Rattle.wait_core.specs.Seating.{party_of};
+ghost use Rattle.wait_core.specs.Seating.{doings_of, party_of};
+ghost use Rattle.wait_core.specs.WordsAreMade.{WordsAreMade};
 ghost use Rattle.wait_core.specs.Rule.{Rule};
 ghost use Rattle.wait_core.specs.Runs.{Deed, Steps, Runs, after_client};
 ghost use Rattle.wait_core.specs.Promises.{NoSetLatchIsSleptOn, NoShutdownIsSleptThrough, LastHoldsAlone, IsOpening, IsReached};
@@ -53,6 +54,12 @@ pub fn shutdown_wakes<P: Party>(party: &P, size: Size, phase: u64)
 /// Whether a backend may sleep stands in its word: 0 wherever its seat is in no wait.
 pub fn may_sleep_is_marked<P: Party>(party: &P, size: Size, phase: u64)
     ensures { (s : WaitState P.View) (id p : ℕ) (v : WaitView P.View) → Rule (P.holds party.now) size phase (P.word_count party.now) s → get_elem? s.views id ≡ maybe.some v → v.own ≡ Some p → slice_index s.words (may_at p) ≡ bit (may_sleep (top v.place)) }
+{}
+
+/// Each word of the machine is what the steps of the seats made of it: so no step leaves another
+/// value than that of its kind.
+pub fn words_are_made<P: Party>(party: &P, size: Size, phase: u64)
+    ensures { (s : WaitState P.View) → Rule (P.holds party.now) size phase (P.word_count party.now) s → WordsAreMade size s.words (map doings_of s.views) }
 {}
 
 /// A number is that of one seat.

@@ -18,4 +18,4 @@ pub use party::{ClientOp, NoParty, Party};
 pub use seat::WaitSeat;
 pub use step::{Call, Until, WaitSeen, WaitStep};
 pub use table::WaitTable;
-pub use view::{Frame, Kept, Made, PartyView, Record, Size, WaitView};
+pub use view::{Frame, Inherited, Kept, Made, PartyView, Record, Size, WaitView};

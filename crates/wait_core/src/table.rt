@@ -123,7 +123,8 @@ impl<P: Party> WaitTable<P> {
     }
 
     /// Makes one step on one word, and answers the word before it. Where the step begins a call,
-    /// the seat goes on in that call.
+    /// the seat goes on in that call. The word becomes what the step's kind says: the rule accounts
+    /// for each word by the steps that stand in the views (`laws::words_are_made`).
     pub fn step(&self, seat: &mut WaitSeat<P>, step: WaitStep) -> WaitSeen
         requires table { seat.old.table_id ≡ self.now.table_id }
         requires place { Allowed self.now.size step seat.old.view }

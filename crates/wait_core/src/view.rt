@@ -1,5 +1,5 @@
-//! What a seat knows. Values of `Frame`, `Made`, `PartyView` and `WaitView` stand in
-//! contracts alone: the program makes none.
+//! What a seat knows. Values of `Frame`, `Made`, `Inherited`, `PartyView` and `WaitView`
+//! stand in contracts alone: the program makes none.
 
 use crate::step::{Until, WaitStep};
 use arrayvec::ArrayVec;
@@ -52,6 +52,12 @@ pub struct Made {
     pub found: u64,
 }
 
+/// A step of a seat that was joined into this one, which had the number `by`.
+pub struct Inherited {
+    pub by: u64,
+    pub made: Made,
+}
+
 /// What a client's meanings see of a seat. C is the client's own view.
 pub struct PartyView<C> {
     pub client: C,
@@ -74,6 +80,8 @@ pub struct WaitView<C> {
     pub place: LinkedList<Frame>,
     /// The steps that it made, but for those of its client.
     pub steps: LinkedList<Made>,
+    /// The steps of the seats that were joined into it.
+    pub inherited: LinkedList<Inherited>,
     pub client: C,
     pub attached: LinkedList<(u32, u64)>,
     pub elections: LinkedList<(u32, u64)>,
