@@ -9,9 +9,9 @@ use Rattle.csv_tables.specs.declared.LoadFault.TheVariants as load
 use Rattle.csv_tables.specs.Faults.{Rose}
 use Rattle.csv_tables.specs.Records.{records_of}
 
--- the bytes that one input may have
+-- the most bytes of one input
 abbrev pub input_limit : ℕ
-input_limit = 4096
+input_limit = 67108864
 
 -- what a read of a whole input answers, where the bytes are told
 abbrev pub ReadsAll : {T : Type 0} → (T → List ℕ) → Option (List ℕ) → Result T LoadFault → Type 0

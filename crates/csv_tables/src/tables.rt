@@ -16,8 +16,8 @@ use csv::{ByteRecord, ReaderBuilder};
 use row_model::{RecordFault, Rows, RowsBuilder, Side};
 use std::alloc::Global;
 
-/// The largest input.
-pub const LIMIT: usize = 4096;
+/// The most bytes of one input.
+pub const INPUT_LIMIT: usize = 67_108_864;
 
 // What is left on a side, to its end.
 fn read_rest<I: Inputs>(alloc: Global, inputs: &mut I, side: Side) -> Result<Vec<u8>, LoadFault>
@@ -31,7 +31,7 @@ fn read_rest<I: Inputs>(alloc: Global, inputs: &mut I, side: Side) -> Result<Vec
 {
     let mut buffer = [0u8; 8192];
     let mut bytes = Vec::new(alloc);
-    'turns: for turn in 0..LIMIT + 1 {
+    'turns: for turn in 0..INPUT_LIMIT + 1 {
         match inputs.read(side, &mut buffer) {
             Err(Failed) => return Err(LoadFault::Read),
             Ok(count) => {
@@ -41,7 +41,7 @@ fn read_rest<I: Inputs>(alloc: Global, inputs: &mut I, side: Side) -> Result<Vec
                 if bytes.extend_from_slice(&buffer[..count]).is_err() {
                     return Err(LoadFault::NoMemory);
                 }
-                if bytes.len() > LIMIT {
+                if bytes.len() > INPUT_LIMIT {
                     return Err(LoadFault::TooLong);
                 }
             }

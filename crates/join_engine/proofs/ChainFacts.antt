@@ -4,7 +4,7 @@ use Rattle.std.specs.Prelude.{slice_get, sum_by, unwrap_or}
 use Rattle.std.specs.List.{filter}
 use Rattle.std.specs.Str.{bytes_eq}
 use Rattle.std.proofs.lemmas.Bool.{cases_Bool, and_parts, cases_eq, cases_lt, false≢true, eq-eqb, eqb-true, lt-ltb, le-ltb}
-use Rattle.std.proofs.lemmas.List.{append-nil, append_assoc, drop_more, drop_all, get_or-set_same, get_or-set_other}
+use Rattle.std.proofs.lemmas.List.{length-append, append-nil, append_assoc, drop_more, drop_all, get_or-set_same, get_or-set_other}
 use Rattle.std.proofs.lemmas.List.FromFn.{length-range_with_len, get_or-range_with_len}
 use Rattle.std.proofs.lemmas.List.Sums.{sum_by-cons}
 use Rattle.std.proofs.lemmas.Slice.Eq.{bytes_eq-Decides}
@@ -214,3 +214,13 @@ confirmed-more outer inner o i rows pairs more whole is all = elim (cases_Bool (
   | inl hit ↦ rw (rw hit at is, append_assoc pairs (record { outer = o; inner = i } ∷ []) (confirmed outer inner o rows)) (rw hit at all)
   | inr miss ↦ rw (rw miss at is, append-nil pairs) (rw miss at all)
 ]
+
+-- a candidate that meets the outer row is one of the pairs
+pub confirmed-counts : (outer inner : Table) (o i : ℕ) (rows : List ℕ) (pairs whole : List Pair) → pairs ++ confirmed outer inner o (i ∷ rows) ≡ whole
+    → length pairs + cond (meets (key_of outer o) (key_of inner i)) 1 0 ≤ length whole
+confirmed-counts outer inner o i rows pairs whole all =
+    let size = sym (ap length all) ∙ length-append pairs (confirmed outer inner o (i ∷ rows)) in
+    elim (cases_Bool (meets (key_of outer o) (key_of inner i))) [
+      | inl hit ↦ (let more = rw hit at size in rw hit (omega arith))
+      | inr miss ↦ rw miss (omega arith)
+    ]

@@ -1,12 +1,15 @@
 -- Steps of two nested loops.
-use Rattle.std.proofs.Common.{◌≡◌, ◌∙◌, ℕ, zero, suc, ◌+◌, ◌<◌, ◌≤◌, Bool, true, false, cond, List, [], ◌∷◌, ◌++◌, length, map, refl, sym, ap, subst, arith}
+use Rattle.std.proofs.Common.{◌≡◌, ◌∙◌, ℕ, zero, suc, ◌+◌, ◌-◌, ◌<◌, ◌≤◌, Bool, true, false, cond, List, [], ◌∷◌, ◌++◌, length, map, refl, sym, ap, subst, arith}
 use Rattle.std.specs.List.{All, flat_map, filter, range_with_len}
-use Rattle.std.proofs.lemmas.List.{map-id, map-append, append-nil, append_assoc}
+use Rattle.std.proofs.lemmas.List.{length-append, map-id, map-append, append-nil, append_assoc}
 use Rattle.std.proofs.lemmas.List.Elements.{filter-append, All-nil, All-append, All-map, All-filter, All-from_get_or}
 use Rattle.std.proofs.lemmas.List.Concat.{flat_map-append}
 use Rattle.std.proofs.lemmas.List.FromFn.{map-range_with_len_more, length-range_with_len, get_or-range_with_len}
 use Rattle.row_model.specs.declared.Pair.{Pair}
 use Rattle.row_model.specs.Table.{Table, meets, key_of, pairs_of, nested_loop}
+use Rattle.join_engine.specs.declared.JoinFault.{JoinFault}
+use Rattle.join_engine.specs.declared.JoinFault.TheVariants as fault
+use Rattle.join_engine.specs.Limit.{PairsShow}
 
 pub range_more : (n : ℕ) → range_with_len 0 (n + 1) ≡ range_with_len 0 n ++ n ∷ []
 range_more n =
@@ -46,6 +49,32 @@ joined-more outer inner n =
 pub joined-whole : (outer inner : Table) → joined outer inner (length outer.rows) ≡ nested_loop outer inner
 unfolding nested_loop
 joined-whole outer inner = refl
+
+pub joined-all : (outer inner : Table) (n : ℕ) (pairs : List Pair) → n ≡ length outer.rows → pairs ≡ joined outer inner n → pairs ≡ nested_loop outer inner
+joined-all outer inner n pairs all is = is ∙ rw all (joined-whole outer inner)
+
+-- the pairs of an outer row and of those before it are not all
+joined-longer : (outer inner : Table) (n more : ℕ) → length (joined outer inner n) ≤ length (joined outer inner (n + more))
+joined-longer outer inner n zero = let same : n + 0 ≡ n = omega arith in rw same (omega arith)
+joined-longer outer inner n (suc more) =
+    let next : n + suc more ≡ (n + more) + 1 = omega arith in
+    let before = joined-longer outer inner n more in
+    rw (next, joined-more outer inner (n + more), length-append (joined outer inner (n + more)) (pairs_of outer inner (n + more))) (omega arith)
+
+pub joined-front : (outer inner : Table) (n : ℕ) → n < length outer.rows
+    → length (joined outer inner n) + length (pairs_of outer inner n) ≤ length (nested_loop outer inner)
+joined-front outer inner n lt =
+    let rest = length outer.rows - (n + 1) in
+    let whole : (n + 1) + rest ≡ length outer.rows = omega arith in
+    let longer = joined-longer outer inner (n + 1) rest in
+    let size = ap length (joined-more outer inner n) ∙ length-append (joined outer inner n) (pairs_of outer inner n) in
+    let all = ap length (joined-whole outer inner) in
+    omega (arith, rw whole at longer, size, all)
+
+-- what a fault shows of some pairs it shows of more
+pub shows-more : (few many : ℕ) (f : JoinFault) → few ≤ many → PairsShow few f → PairsShow many f
+shows-more few many (fault.TooMany counted) le h = (h.0, omega (arith, h.1))
+shows-more few many fault.NoMemory le h = tt
 
 -- what the loops take
 pub ruleset steps = (first_pairs-hit, first_pairs-miss, joined-more, append_assoc)

@@ -4,11 +4,13 @@ ghost use Rattle.std.specs.Prelude.{◌≡◌, ◌<◌};
 
 use crate::hashed::hashed_pairs;
 use crate::nested::nested_pairs;
+use crate::{JoinFault, PAIR_LIMIT};
 use proc_table::Steps;
 use row_model::{Pair, RecordFault, Rows, RowsBuilder};
 use std::alloc::Global;
 use std::marker::Brand;
 use std::sync::ledger::{Blank, Ledger};
+use std::test::Fail;
 
 // Tables by their keys. "costarring" and "liquid" have one hash, as have "declinate" and
 // "macallums", and "altarage" and "zinke".
@@ -56,7 +58,7 @@ fn both<L: Ledger>(
     alloc: Global,
     outer: &[&str],
     inner: &[&str],
-) -> Result<(Vec<Pair>, Vec<Pair>), RecordFault>
+) -> Result<(Vec<Pair>, Vec<Pair>), Fail>
     requires name { blank.name ≡ L.name }
     requires parts { blank.parts ≡ L.parts }
     requires some { 0 < blank.parts }
@@ -70,11 +72,10 @@ fn both<L: Ledger>(
 }
 
 #[test]
-fn hash_table_and_nested_loops_agree(rt: HostRuntime) {
+fn hash_table_and_nested_loops_agree(rt: HostRuntime) -> Result<(), Fail> {
     for (o, outer) in TABLES.iter().enumerate() {
         for (i, inner) in TABLES.iter().enumerate() {
-            let pairs = both::<Brand>(Blank::new(1), rt.alloc(), outer, inner);
-            let (hashed, nested) = pairs.expect(&rt, "memory");
+            let (hashed, nested) = both::<Brand>(Blank::new(1), rt.alloc(), outer, inner)?;
             assert_eq!(rt;
                 hashed.as_slice(),
                 nested.as_slice(),
@@ -83,4 +84,46 @@ fn hash_table_and_nested_loops_agree(rt: HostRuntime) {
             assert_eq!(rt; hashed.len(), COUNTS[o][i], "outer {o}, inner {i}");
         }
     }
+    Ok(())
+}
+
+// How many pairs the hash table gives where this many outer and inner rows have one key.
+fn count<L: Ledger>(
+    blank: Blank,
+    alloc: Global,
+    outer: usize,
+    inner: usize,
+) -> Result<Result<usize, JoinFault>, Fail>
+    requires name { blank.name ≡ L.name }
+    requires parts { blank.parts ≡ L.parts }
+    requires some { 0 < blank.parts }
+{
+    let mut steps = Steps::<L>::new(blank);
+    let keys = vec![in alloc; "a"; outer]?;
+    let outer = table(alloc, keys.as_slice())?;
+    let keys = vec![in alloc; "a"; inner]?;
+    let inner = table(alloc, keys.as_slice())?;
+    match hashed_pairs(alloc, &outer, &inner, &mut steps) {
+        Ok(pairs) => Ok(Ok(pairs.len())),
+        Err(fault) => Ok(Err(fault)),
+    }
+}
+
+#[test]
+fn pairs_past_the_limit_are_refused(rt: HostRuntime) -> Result<(), Fail> {
+    let one_more = JoinFault::TooMany {
+        counted: PAIR_LIMIT as u64 + 1,
+    };
+    let cases = [
+        (2048, 2048, Ok(PAIR_LIMIT)),
+        (2048, 2049, Err(one_more)),
+        (3000, 3000, Err(one_more)),
+    ];
+    for (outer, inner, pairs) in cases {
+        assert_eq!(rt;
+            count::<Brand>(Blank::new(1), rt.alloc(), outer, inner)?,
+            pairs
+        );
+    }
+    Ok(())
 }

@@ -32,5 +32,6 @@ faultless p i o a b c d t x y f g (status.OpenFault s) calm same full leaves cou
 faultless p i o a b c d t x y f g (status.ReadFault s) calm same full leaves counts there = absurd (calm there.steady there.inner there.outer)
 faultless p i o a b c d t x y f g (status.TooLong s) calm same full leaves counts there = counts
 faultless p i o a b c d t x y f g (status.BadInput s k) calm same full leaves counts there = counts
+faultless p i o a b c d t x y f g status.TooManyResults calm same full leaves counts there = counts
 faultless p i o a b c d t x y f g status.WriteFault calm same full leaves counts there = absurd (has_room a b c t there.room leaves (rw same at (full refl)))
 faultless p i o a b c d t x y f g status.NoMemory calm same full leaves counts there = counts

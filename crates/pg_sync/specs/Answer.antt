@@ -1,10 +1,12 @@
 -- What a join of two inputs answers, why, and what it has written.
 use Rattle.std.specs.Prelude.{◌≡◌, ◌+◌, ◌<◌, ◌≤◌, ◌⊎◌, ℕ, nat_lt, if◌then◌else◌, List, [], length, Option, Some, None, IfSome, IsSome, option_map}
 use Rattle.std.specs.Io.KnownBytes.{Appends}
+use Rattle.row_model.specs.declared.Pair.{Pair}
 use Rattle.row_model.specs.declared.RowFault.{RowFault}
 use Rattle.row_model.specs.declared.Side.{Side}
 use Rattle.row_model.specs.declared.Side.TheVariants as side
 use Rattle.row_model.specs.Form.{form_fault, table_of}
+use Rattle.row_model.specs.Table.{nested_loop}
 use Rattle.csv_tables.specs.declared.LoadFault.{LoadFault}
 use Rattle.csv_tables.specs.declared.LoadFault.TheVariants as load
 use Rattle.csv_tables.specs.Faults.{Rose}
@@ -12,11 +14,16 @@ use Rattle.csv_tables.specs.Loading.{input_limit}
 use Rattle.csv_tables.specs.Appending.{AppendsPart, AppendsFront}
 use Rattle.csv_tables.specs.Records.{records_of}
 use Rattle.csv_tables.specs.Text.{joined_text}
+use Rattle.join_engine.specs.Limit.{pair_limit}
 use Rattle.pg_sync.specs.declared.status.Status.{Status}
 use Rattle.pg_sync.specs.declared.status.Status.TheVariants as status
 use Rattle.pg_sync.specs.Words.{Job}
 
--- the text of the nested-loop join of two inputs by one thread
+-- the pairs of the nested-loop join of two inputs by one thread
+abbrev pub pairs_of : Job → List ℕ → List ℕ → List Pair
+pairs_of job inner outer = nested_loop (table_of (records_of outer) job.outer_key) (table_of (records_of inner) job.inner_key)
+
+-- the text of that join
 abbrev pub text_of : Job → List ℕ → List ℕ → List ℕ
 text_of job inner outer = joined_text (table_of (records_of outer) job.outer_key) (table_of (records_of inner) job.inner_key)
 
@@ -31,12 +38,18 @@ abbrev pub or_next : Option Status → Option Status → Option Status
 or_next (Some s) next = Some s
 or_next None next = next
 
--- the answer that the bytes decide, where enough of them is told: the inner side's refusal, else the outer side's, else Done
+-- the join of two tables is refused where it has too many rows
+abbrev pub join_refusal : Job → List ℕ → List ℕ → Option Status
+join_refusal job inner outer = if nat_lt pair_limit (length (pairs_of job inner outer)) then Some status.TooManyResults else None
+
+-- the answer that the bytes decide, where enough of them is told: the inner side's refusal, else the outer side's, else the
+-- join's, else Done
 unfoldable pub answer_of : Job → Option (List ℕ) → Option (List ℕ) → Option Status
 answer_of job None outer = None
 answer_of job (Some inner) None = side_refusal side.Inner job.inner_key inner
 answer_of job (Some inner) (Some outer) =
-    or_next (side_refusal side.Inner job.inner_key inner) (or_next (side_refusal side.Outer job.outer_key outer) (Some status.Done))
+    or_next (side_refusal side.Inner job.inner_key inner) (or_next (side_refusal side.Outer job.outer_key outer)
+    (or_next (join_refusal job inner outer) (Some status.Done)))
 
 -- the text that is due, where the bytes of both inputs are told: that of the join where they decide Done, and else none
 abbrev pub text_after : Option Status → List ℕ → List ℕ
@@ -52,13 +65,27 @@ due_text job None outer = None
 abbrev pub IsTable : List ℕ → List ℕ → Type 0
 IsTable key bytes = (length bytes ≤ input_limit) × (form_fault (records_of bytes) key ≡ None)
 
+-- what holds of the bytes of both sides, where they are told
+abbrev pub IfBoth : Option (List ℕ) → Option (List ℕ) → (List ℕ → List ℕ → Type 0) → Type 0
+IfBoth inner outer P = IfSome inner (λ i. IfSome outer (P i))
+
+-- the bytes of both sides are tables, and their join has few enough rows
+abbrev pub IsJoinable : Job → Option (List ℕ) → Option (List ℕ) → Type 0
+IsJoinable job inner outer = IfSome inner (IsTable job.inner_key) × IfSome outer (IsTable job.outer_key)
+    × IfBoth inner outer (λ i o. length (pairs_of job i o) ≤ pair_limit)
+
+-- the bytes of both sides are tables, and their join has too many rows
+abbrev pub HasTooManyResults : Job → Option (List ℕ) → Option (List ℕ) → Type 0
+HasTooManyResults job inner outer = IfSome inner (IsTable job.inner_key) × IfSome outer (IsTable job.outer_key)
+    × IfBoth inner outer (λ i o. pair_limit < length (pairs_of job i o))
+
 -- the bytes have this fault of form
 abbrev pub HasFault : List ℕ → RowFault → List ℕ → Type 0
 HasFault key f bytes = (length bytes ≤ input_limit) × (form_fault (records_of bytes) key ≡ Some f)
 
 -- what the bytes, where they are told, show of each answer
 abbrev pub BytesShow : Job → Option (List ℕ) → Option (List ℕ) → Status → Type 0
-BytesShow job inner outer status.Done = IfSome inner (IsTable job.inner_key) × IfSome outer (IsTable job.outer_key)
+BytesShow job inner outer status.Done = IsJoinable job inner outer
 BytesShow job inner outer status.Words = ⊥
 BytesShow job inner outer (status.OpenFault side.Inner) = Unit {0}
 BytesShow job inner outer (status.ReadFault side.Inner) = Unit {0}
@@ -68,7 +95,8 @@ BytesShow job inner outer (status.OpenFault side.Outer) = IfSome inner (IsTable 
 BytesShow job inner outer (status.ReadFault side.Outer) = IfSome inner (IsTable job.inner_key)
 BytesShow job inner outer (status.TooLong side.Outer) = IfSome inner (IsTable job.inner_key) × IfSome outer (λ o. input_limit < length o)
 BytesShow job inner outer (status.BadInput side.Outer f) = IfSome inner (IsTable job.inner_key) × IfSome outer (HasFault job.outer_key f)
-BytesShow job inner outer status.WriteFault = IfSome inner (IsTable job.inner_key) × IfSome outer (IsTable job.outer_key)
+BytesShow job inner outer status.TooManyResults = HasTooManyResults job inner outer
+BytesShow job inner outer status.WriteFault = IsJoinable job inner outer
 BytesShow job inner outer status.NoMemory = Unit {0}
 
 -- the counts of faults of two inputs
@@ -101,6 +129,7 @@ CountsShow before now faults faults' (status.ReadFault side.Outer) =
     IsQuiet before now side.Inner × Rose (before.reads side.Outer) (now.reads side.Outer) × (faults' ≡ faults)
 CountsShow before now faults faults' (status.TooLong s) = NoneFailed before now faults faults'
 CountsShow before now faults faults' (status.BadInput s f) = NoneFailed before now faults faults'
+CountsShow before now faults faults' status.TooManyResults = NoneFailed before now faults faults'
 CountsShow before now faults faults' status.WriteFault = IsQuiet before now side.Inner × IsQuiet before now side.Outer × Rose faults faults'
 CountsShow before now faults faults' status.NoMemory = NoneFailed before now faults faults'
 
@@ -115,6 +144,23 @@ Leaves old new text (status.OpenFault s) = new ≡ old
 Leaves old new text (status.ReadFault s) = new ≡ old
 Leaves old new text (status.TooLong s) = new ≡ old
 Leaves old new text (status.BadInput s f) = new ≡ old
+Leaves old new text status.TooManyResults = new ≡ old
+
+-- the text that is due of the join of two tables, which has so many pairs: none where they are too many
+abbrev pub text_within : ℕ → List ℕ → List ℕ
+text_within pairs text = if nat_lt pair_limit pairs then [] else text
+
+-- what the join of two tables answers, which has so many pairs and this text
+abbrev pub JoinShows : ℕ → List ℕ → Option (List ℕ) → Option (List ℕ) → ℕ → ℕ → Status → Type 0
+JoinShows pairs text old new faults faults' status.Done = (pairs ≤ pair_limit) × Appends old new text × (faults' ≡ faults)
+JoinShows pairs text old new faults faults' status.TooManyResults = (pair_limit < pairs) × (new ≡ old) × (faults' ≡ faults)
+JoinShows pairs text old new faults faults' status.WriteFault = (pairs ≤ pair_limit) × AppendsPart old new text × Rose faults faults'
+JoinShows pairs text old new faults faults' status.NoMemory = AppendsFront old new (text_within pairs text) × (faults' ≡ faults)
+JoinShows pairs text old new faults faults' status.Words = ⊥
+JoinShows pairs text old new faults faults' (status.OpenFault s) = ⊥
+JoinShows pairs text old new faults faults' (status.ReadFault s) = ⊥
+JoinShows pairs text old new faults faults' (status.TooLong s) = ⊥
+JoinShows pairs text old new faults faults' (status.BadInput s f) = ⊥
 
 -- no fault rose on a side
 pub record NoneRose (before now : Counts) (s : Side) : Type 0 where
@@ -127,6 +173,7 @@ NoFaultBefore before now faults faults' (status.TooLong side.Inner) = NoneRose b
 NoFaultBefore before now faults faults' (status.BadInput side.Inner f) = NoneRose before now side.Inner
 NoFaultBefore before now faults faults' (status.TooLong side.Outer) = NoneRose before now side.Inner × NoneRose before now side.Outer
 NoFaultBefore before now faults faults' (status.BadInput side.Outer f) = NoneRose before now side.Inner × NoneRose before now side.Outer
+NoFaultBefore before now faults faults' status.TooManyResults = NoneRose before now side.Inner × NoneRose before now side.Outer
 NoFaultBefore before now faults faults' s = NoneRose before now side.Inner × NoneRose before now side.Outer × (Rose faults faults' → ⊥)
 
 -- where no fault rose before it, a join gives the answer that the bytes decide, or memory ran out
@@ -142,6 +189,7 @@ NoInputFailed status.Done = Unit {0}
 NoInputFailed status.Words = Unit {0}
 NoInputFailed (status.TooLong s) = Unit {0}
 NoInputFailed (status.BadInput s f) = Unit {0}
+NoInputFailed status.TooManyResults = Unit {0}
 NoInputFailed status.WriteFault = Unit {0}
 NoInputFailed status.NoMemory = Unit {0}
 

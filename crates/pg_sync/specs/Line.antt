@@ -20,10 +20,13 @@ line_of (status.OpenFault s) = codes "pg_sync: cannot open " ++ side_name s ++ c
 line_of (status.ReadFault s) = codes "pg_sync: cannot read " ++ side_name s ++ codes " input\n"
 line_of (status.TooLong s) = codes "pg_sync: " ++ side_name s ++ codes " input is too long\n"
 line_of (status.BadInput s fault.NoHeader) = codes "pg_sync: " ++ side_name s ++ codes " input: no header\n"
+line_of (status.BadInput s fault.TooManyColumns) = codes "pg_sync: " ++ side_name s ++ codes " input: too many columns\n"
 line_of (status.BadInput s fault.NoKey) = codes "pg_sync: " ++ side_name s ++ codes " input: no such key\n"
 line_of (status.BadInput s fault.TwoKeys) = codes "pg_sync: " ++ side_name s ++ codes " input: two such keys\n"
 line_of (status.BadInput s (fault.Ragged number)) =
     codes "pg_sync: " ++ side_name s ++ codes " input: record " ++ decimal number ++ codes " has another length\n"
+line_of (status.BadInput s fault.TooManyRows) = codes "pg_sync: " ++ side_name s ++ codes " input: too many rows\n"
+line_of status.TooManyResults = codes "pg_sync: too many result rows\n"
 line_of status.WriteFault = codes "pg_sync: cannot write\n"
 line_of status.NoMemory = codes "pg_sync: out of memory\n"
 
@@ -38,5 +41,6 @@ exit_number (status.OpenFault s) = 2
 exit_number (status.ReadFault s) = 3
 exit_number (status.TooLong s) = 4
 exit_number (status.BadInput s f) = 5
+exit_number status.TooManyResults = 6
 exit_number status.WriteFault = 7
 exit_number status.NoMemory = 8

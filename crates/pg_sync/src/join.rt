@@ -1,18 +1,18 @@
 //! A join from the inputs to the sink.
 
-ghost use Rattle.std.specs.Prelude.{◌≡◌, ◌<◌, Err, IsSome};
-ghost use Rattle.csv_tables.specs.declared.PrintFault.TheVariants as fault;
-ghost use Rattle.csv_tables.specs.Appending.{IsFull, Prints};
+ghost use Rattle.std.specs.Prelude.{◌≡◌, ◌<◌, IsSome, length};
+ghost use Rattle.csv_tables.specs.Appending.{IsFull};
 ghost use Rattle.csv_tables.specs.Text.{joined_text};
+ghost use Rattle.row_model.specs.Table.{nested_loop};
 ghost use Rattle.row_model.specs.declared.Side.TheVariants as side;
 ghost use Rattle.pg_sync.specs.declared.status.Status.TheVariants as status;
-ghost use Rattle.pg_sync.specs.Answer.{AllIsThere, BytesShow, CountsShow, Decided, Leaves, NoInputFailed, NoneFailed, counts_of, due_text, refusal_of};
+ghost use Rattle.pg_sync.specs.Answer.{AllIsThere, BytesShow, CountsShow, Decided, JoinShows, Leaves, NoInputFailed, NoneFailed, counts_of, due_text, refusal_of};
 ghost use Rattle.pg_sync.specs.Words.{job_at};
 
 use crate::status::Status;
 use crate::words::JoinWords;
 use csv_tables::{Inputs, LoadFault, PrintFault, Sink, load, print};
-use join_engine::join_rows;
+use join_engine::{JoinFault, join_rows};
 use proc_table::{Gate, Steps};
 use row_model::{Plan, Rows, Side};
 use std::alloc::Global;
@@ -44,19 +44,25 @@ fn print_join<R: Threads + Wait + Sync, S: Sink, G: Gate, L: Ledger>(
     plan: Plan,
     out: &mut S,
     gate: &G,
-) -> Result<(), PrintFault>
+) -> Status
     requires name { blank.name ≡ L.name }
     requires parts { blank.parts ≡ L.parts }
     requires some { 0 < blank.parts }
     requires workers { plan.workers ≡ 1 }
-    ensures prints { Prints (S.taken out.old) (S.taken out.new) (S.faults out.old) (S.faults out.new) (joined_text outer.now inner.now) result }
+    ensures joins { JoinShows (length (nested_loop outer.now inner.now)) (joined_text outer.now inner.now) (S.taken out.old) (S.taken out.new) (S.faults out.old) (S.faults out.new) result }
     ensures capacity { S.capacity out.new ≡ S.capacity out.old }
-    ensures full { result ≡ Err fault.Write → IsFull (S.taken out.new) (S.capacity out.new) }
+    ensures full { result ≡ status.WriteFault → IsFull (S.taken out.new) (S.capacity out.new) }
 {
     let mut steps = [Steps::<L>::new(blank)];
-    match join_rows(rt, alloc, inner, outer, plan, gate, &mut steps) {
-        Ok(joined) => print(alloc, outer, inner, &joined.pairs, out),
-        Err(_) => Err(PrintFault::NoMemory),
+    let joined = match join_rows(rt, alloc, inner, outer, plan, gate, &mut steps) {
+        Ok(joined) => joined,
+        Err(JoinFault::TooMany { .. }) => return Status::TooManyResults,
+        Err(JoinFault::NoMemory) => return Status::NoMemory,
+    };
+    match print(alloc, outer, inner, &joined.pairs, out) {
+        Ok(()) => Status::Done,
+        Err(PrintFault::Write) => Status::WriteFault,
+        Err(PrintFault::NoMemory) => Status::NoMemory,
     }
 }
 
@@ -87,7 +93,7 @@ fn join_inputs<R: Threads + Wait + Sync, I: Inputs, S: Sink, G: Gate>(
         Ok(rows) => rows,
         Err(fault) => return refusal(Side::Outer, fault),
     };
-    match print_join::<R, S, G, Brand>(
+    print_join::<R, S, G, Brand>(
         Blank::new(1),
         rt,
         alloc,
@@ -96,11 +102,7 @@ fn join_inputs<R: Threads + Wait + Sync, I: Inputs, S: Sink, G: Gate>(
         job.plan,
         out,
         gate,
-    ) {
-        Ok(()) => Status::Done,
-        Err(PrintFault::Write) => Status::WriteFault,
-        Err(PrintFault::NoMemory) => Status::NoMemory,
-    }
+    )
 }
 
 /// Joins the inputs of these names by their keys, and writes the text of the join.

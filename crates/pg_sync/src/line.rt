@@ -46,6 +46,7 @@ fn line_of(status: Status) -> Line
         Status::ReadFault(side) => return sided("pg_sync: cannot read ", side, " input\n"),
         Status::TooLong(side) => return sided("pg_sync: ", side, " input is too long\n"),
         Status::BadInput(side, fault) => return form_line(side, fault),
+        Status::TooManyResults => line.push_str("pg_sync: too many result rows\n"),
         Status::WriteFault => line.push_str("pg_sync: cannot write\n"),
         Status::NoMemory => line.push_str("pg_sync: out of memory\n"),
     }
@@ -58,6 +59,7 @@ fn form_line(side: Side, fault: RowFault) -> Line
 {
     match fault {
         RowFault::NoHeader => sided("pg_sync: ", side, " input: no header\n"),
+        RowFault::TooManyColumns => sided("pg_sync: ", side, " input: too many columns\n"),
         RowFault::NoKey => sided("pg_sync: ", side, " input: no such key\n"),
         RowFault::TwoKeys => sided("pg_sync: ", side, " input: two such keys\n"),
         RowFault::Ragged { number } => {
@@ -66,6 +68,7 @@ fn form_line(side: Side, fault: RowFault) -> Line
             line.push_str(" has another length\n");
             line
         }
+        RowFault::TooManyRows => sided("pg_sync: ", side, " input: too many rows\n"),
     }
 }
 

@@ -19,6 +19,8 @@ pub enum Status {
     TooLong(Side),
     /// An input is no table with the key.
     BadInput(Side, RowFault),
+    /// The join has more rows than one may have.
+    TooManyResults,
     /// A write of the text failed.
     WriteFault,
     /// Memory ran out.
@@ -39,6 +41,7 @@ impl Status {
             Status::ReadFault(_) => 3,
             Status::TooLong(_) => 4,
             Status::BadInput(_, _) => 5,
+            Status::TooManyResults => 6,
             Status::WriteFault => 7,
             Status::NoMemory => 8,
         }

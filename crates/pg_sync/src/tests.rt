@@ -278,17 +278,44 @@ fn words_that_name_no_command(rt: HostRuntime) {
 }
 
 #[test]
-fn an_input_has_4096_bytes_at_most(rt: HostRuntime) -> Result<(), Fail> {
-    let alloc = rt.alloc();
+fn columns_past_the_limit_are_refused(rt: HostRuntime) -> Result<(), Fail> {
+    // so many commas stand between empty fields, one more than there are commas
     let cases = [
-        (4096, Status::BadInput(Side::Inner, RowFault::NoKey)),
-        (4097, Status::TooLong(Side::Inner)),
+        (255, RowFault::NoKey, "pg_sync: inner input: no such key\n"),
+        (
+            256,
+            RowFault::TooManyColumns,
+            "pg_sync: inner input: too many columns\n",
+        ),
     ];
-    for (size, status) in cases {
-        let inner = vec![in alloc; b'x'; size]?;
-        let ended = join(&rt, ("id", "id"), inner.as_slice(), b"", CALM);
-        assert_eq!(rt; ended.expect(&rt, "memory").status, status);
+    for (commas, fault, line) in cases {
+        let inner = vec![in rt.alloc(); b','; commas]?;
+        let ended = join(&rt, ("id", "id"), inner.as_slice(), b"", CALM)?;
+        assert_eq!(rt; ended.status, Status::BadInput(Side::Inner, fault));
+        assert_eq!(rt; ended.err.taken(), line.as_bytes());
     }
+    Ok(())
+}
+
+// A table of one column, `k`, with so many rows `a`.
+fn rows_of_a(alloc: Global, rows: u32) -> Result<Vec<u8>, NoMemory> {
+    let mut text = Vec::from_slice(alloc, b"k\n")?;
+    for _row in 0..rows {
+        text.extend_from_slice(b"a\n")?;
+    }
+    Ok(text)
+}
+
+#[test]
+fn nine_million_pairs_are_refused(rt: HostRuntime) -> Result<(), Fail> {
+    let text = rows_of_a(rt.alloc(), 3000)?;
+    let ended = join(&rt, ("k", "k"), text.as_slice(), text.as_slice(), CALM)?;
+    assert_eq!(rt; ended.status, Status::TooManyResults);
+    assert!(rt; ended.out.taken().is_empty());
+    assert_eq!(rt;
+        ended.err.taken(),
+        b"pg_sync: too many result rows\n".as_slice()
+    );
     Ok(())
 }
 

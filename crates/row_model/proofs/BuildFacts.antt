@@ -1,13 +1,12 @@
 -- Laws of a builder of rows, over plain lists.
 use Rattle.std.proofs.Common.{◌≡◌, ◌≢◌, ◌∙◌, ℕ, zero, suc, ◌+◌, ◌-◌, ◌*◌, ◌^◌, ◌<◌, ◌≤◌, List, [], ◌∷◌, ◌++◌, length, take, drop, Option, Some, None, refl, sym, ap, arith, inl, inr}
 use Rattle.std.proofs.Math.Nat.{mul-le-mul_right, mul-le-mul_left}
-use Rattle.std.proofs.lemmas.Bool.{eq-eqb, ne_eqb}
-use Rattle.std.proofs.lemmas.Bool.Decides.{eqb_tells}
+use Rattle.std.proofs.lemmas.Bool.{cases_eq, cases_lt, eq-eqb, ne_eqb, lt-ltb, le-ltb}
 use Rattle.std.proofs.lemmas.List.{length-drop, length-take, length-append, take-append-le, drop-append-le, take_all}
 use Rattle.row_model.specs.declared.RowFault.{RowFault}
 use Rattle.row_model.specs.declared.RowFault.TheVariants as fault
 use Rattle.row_model.specs.Table.{Table}
-use Rattle.row_model.specs.Form.{or_else, header_fault, rows_fault, fault_so_far, form_fault, table_of, column_of}
+use Rattle.row_model.specs.Form.{column_limit, row_limit, or_else, key_fault, header_fault, row_fault, rows_fault, fault_so_far, form_fault, table_of, column_of}
 use Rattle.row_model.specs.Layout.{fields_from, fields_of, Rising, rows_of, ended, refusal_at, refusal_of}
 use Rattle.row_model.specs.BuilderLayout.{building, IsBuilding}
 use Rattle.row_model.proofs.LayoutFacts.{rising-push, fields_from-push, length-fields_from, rows_of-append, rows_of-more, length-rows_of}
@@ -92,72 +91,75 @@ view-header key ends bytes =
     gone (suc n) [] h = refl
     gone (suc n) (x ∷ xs) h = gone n xs (omega arith)
 
--- a row after rows of the header's length
-rows_fault-even : (w n : ℕ) (rows : List (List (List ℕ))) (row : List (List ℕ)) → rows_fault w n rows ≡ None → length row ≡ w
-    → rows_fault w n (rows ++ row ∷ []) ≡ None
-unfolding rows_fault
-rows_fault-even w n [] row none e = rw (eq-eqb (length row) w e) refl
-rows_fault-even w n (r ∷ rows) row none e = elim (eqb_tells (length r) w) [
-  | inl t ↦ rw t.0 (rows_fault-even w (n + 1) rows row (rw t.0 at none) e)
-  | inr f ↦ let wrong = rw f.0 at none in cc
-]
-
-rows_fault-ragged : (w n : ℕ) (rows : List (List (List ℕ))) (row : List (List ℕ)) (at : ℕ) → rows_fault w n rows ≡ None → length row ≢ w → n + length rows ≡ at
-    → rows_fault w n (rows ++ row ∷ []) ≡ Some (fault.Ragged at)
-unfolding rows_fault
-rows_fault-ragged w n [] row at none e here = let same : n ≡ at = omega arith in rw (ne_eqb (length row) w e) (ap (λ (k : ℕ). Some (fault.Ragged k)) same)
-rows_fault-ragged w n (r ∷ rows) row at none e here = elim (eqb_tells (length r) w) [
-  | inl t ↦ rw t.0 (rows_fault-ragged w (n + 1) rows row at (rw t.0 at none) e (omega arith))
-  | inr f ↦ let wrong = rw f.0 at none in cc
-]
-
--- a header and rows without a fault
+-- neither of two faults
 parts : (a b : Option RowFault) → or_else a b ≡ None → (a ≡ None) × (b ≡ None)
 parts None b h = (refl, h)
 parts (Some f) b h = let wrong = h in cc
 
-fault-even : (key : List ℕ) (header : List (List ℕ)) (rows : List (List (List ℕ))) (row : List (List ℕ)) → fault_so_far key (header ∷ rows) ≡ None
-    → length row ≡ length header → fault_so_far key ((header ∷ rows) ++ row ∷ []) ≡ None
-unfolding fault_so_far
-fault-even key header rows row none e =
-    let p = parts (header_fault key header) (rows_fault (length header) 2 rows) none in
-    rw (p.0) (rows_fault-even (length header) 2 rows row p.1 e)
+or_else-none : (a : Option RowFault) → or_else a None ≡ a
+or_else-none None = refl
+or_else-none (Some f) = refl
 
-fault-ragged : (key : List ℕ) (header : List (List ℕ)) (rows : List (List (List ℕ))) (row : List (List ℕ)) (at : ℕ) → fault_so_far key (header ∷ rows) ≡ None
-    → length row ≢ length header → 2 + length rows ≡ at → fault_so_far key ((header ∷ rows) ++ row ∷ []) ≡ Some (fault.Ragged at)
+-- a row after rows without a fault
+rows_fault-next : (w n : ℕ) (rows : List (List (List ℕ))) (row : List (List ℕ)) (at : ℕ) → rows_fault w n rows ≡ None → n + length rows ≡ at
+    → rows_fault w n (rows ++ row ∷ []) ≡ row_fault w at row
+unfolding rows_fault
+rows_fault-next w n [] row at none here = let same : n ≡ at = omega arith in rw same (or_else-none (row_fault w at row))
+rows_fault-next w n (r ∷ rows) row at none here =
+    let p = parts (row_fault w n r) (rows_fault w (n + 1) rows) none in
+    rw p.0 (rows_fault-next w (n + 1) rows row at p.1 (omega arith))
+
+fault-next : (key : List ℕ) (header : List (List ℕ)) (rows : List (List (List ℕ))) (row : List (List ℕ)) (at : ℕ) → fault_so_far key (header ∷ rows) ≡ None
+    → 2 + length rows ≡ at → fault_so_far key ((header ∷ rows) ++ row ∷ []) ≡ row_fault (length header) at row
 unfolding fault_so_far
-fault-ragged key header rows row at none e here =
+fault-next key header rows row at none here =
     let p = parts (header_fault key header) (rows_fault (length header) 2 rows) none in
-    rw (p.0) (rows_fault-ragged (length header) 2 rows row at p.1 e here)
+    rw (p.0) (rows_fault-next (length header) 2 rows row at p.1 here)
 
 -- the record at hand, in numbers
 pub length-at_hand : (ends bytes : List ℕ) (w c : ℕ) → length (drop (c * w) (fields_of ends bytes)) ≡ length ends - c * w
 length-at_hand ends bytes w c = rw (length-drop (c * w) (fields_of ends bytes), length-fields_from 0 ends bytes) refl
 
--- a record of the header's length is ended
-pub refusal-even : (key ends bytes : List ℕ) (w column c : ℕ) → IsBuilding key ends bytes w column c None → 0 < c → length ends - c * w ≡ w
-    → refusal_at (building key ends bytes w c None) ≡ None
+-- what the record at hand is refused for
+pub refusal-next : (key ends bytes : List ℕ) (w column c : ℕ) → IsBuilding key ends bytes w column c None → 0 < c
+    → refusal_at (building key ends bytes w c None) ≡ row_fault w (c + 1) (drop (c * w) (fields_of ends bytes))
 unfolding rows_of
-refusal-even key ends bytes w column zero h some e = absurd (omega arith)
-refusal-even key ends bytes w column (suc k) h some e =
+refusal-next key ends bytes w column zero h some = absurd (omega arith)
+refusal-next key ends bytes w column (suc k) h some =
     let size = length-fields_from 0 ends bytes in
     let le = front w (suc k) (fields_of ends bytes) some (omega (arith, h.whole)) in
     let head : length (take w (fields_of ends bytes)) ≡ w = rw (length-take w (fields_of ends bytes)) (omega arith) in
-    let hand = length-at_hand ends bytes w (suc k) in
-    fault-even key (take w (fields_of ends bytes)) (rows_of w k (drop w (fields_of ends bytes))) (drop (suc k * w) (fields_of ends bytes)) (h.clean refl) (hand ∙ e ∙ sym head)
+    let count = length-rows_of w k (drop w (fields_of ends bytes)) in
+    fault-next key (take w (fields_of ends bytes)) (rows_of w k (drop w (fields_of ends bytes))) (drop (suc k * w) (fields_of ends bytes)) (suc k + 1) (h.clean refl) (omega arith)
+    ∙ ap (λ (n : ℕ). row_fault n (suc k + 1) (drop (suc k * w) (fields_of ends bytes))) head
+
+-- a row of another length, one row too many, and a row of a table
+row_fault-ragged : (w number : ℕ) (row : List (List ℕ)) → length row ≢ w → row_fault w number row ≡ Some (fault.Ragged number)
+unfolding row_fault
+row_fault-ragged w number row other = rw (ne_eqb (length row) w other) refl
+
+row_fault-past : (w number : ℕ) (row : List (List ℕ)) → length row ≡ w → row_limit + 1 < number → row_fault w number row ≡ Some fault.TooManyRows
+unfolding row_fault
+row_fault-past w number row even past = rw (eq-eqb (length row) w even, lt-ltb (row_limit + 1) number past) refl
+
+pub row_fault-none : (w number : ℕ) (row : List (List ℕ)) → length row ≡ w → number ≤ row_limit + 1 → row_fault w number row ≡ None
+unfolding row_fault
+row_fault-none w number row even within = rw (eq-eqb (length row) w even, le-ltb (row_limit + 1) number within) refl
 
 pub refusal-ragged : (key ends bytes : List ℕ) (w column c : ℕ) → IsBuilding key ends bytes w column c None → 0 < c → length ends - c * w ≢ w
     → refusal_at (building key ends bytes w c None) ≡ Some (fault.Ragged (c + 1))
-unfolding rows_of
-refusal-ragged key ends bytes w column zero h some e = absurd (omega arith)
-refusal-ragged key ends bytes w column (suc k) h some e =
-    let size = length-fields_from 0 ends bytes in
-    let le = front w (suc k) (fields_of ends bytes) some (omega (arith, h.whole)) in
-    let head : length (take w (fields_of ends bytes)) ≡ w = rw (length-take w (fields_of ends bytes)) (omega arith) in
-    let hand = length-at_hand ends bytes w (suc k) in
-    let count = length-rows_of w k (drop w (fields_of ends bytes)) in
-    fault-ragged key (take w (fields_of ends bytes)) (rows_of w k (drop w (fields_of ends bytes))) (drop (suc k * w) (fields_of ends bytes)) (suc k + 1) (h.clean refl)
-    (λ same. e (sym hand ∙ same ∙ head)) (omega arith)
+refusal-ragged key ends bytes w column c h some e =
+    refusal-next key ends bytes w column c h some ∙ row_fault-ragged w (c + 1) _ (λ same. e (sym (length-at_hand ends bytes w c) ∙ same))
+
+pub refusal-past : (key ends bytes : List ℕ) (w column c : ℕ) → IsBuilding key ends bytes w column c None → 0 < c → length ends - c * w ≡ w → row_limit < c
+    → refusal_at (building key ends bytes w c None) ≡ Some fault.TooManyRows
+refusal-past key ends bytes w column c h some e past =
+    refusal-next key ends bytes w column c h some ∙ row_fault-past w (c + 1) _ (length-at_hand ends bytes w c ∙ e) (omega arith)
+
+pub refusal-even : (key ends bytes : List ℕ) (w column c : ℕ) → IsBuilding key ends bytes w column c None → 0 < c → length ends - c * w ≡ w → c ≤ row_limit
+    → refusal_at (building key ends bytes w c None) ≡ None
+refusal-even key ends bytes w column c h some e within =
+    refusal-next key ends bytes w column c h some ∙ row_fault-none w (c + 1) _ (length-at_hand ends bytes w c ∙ e) (omega arith)
 
 gone : (n : ℕ) (xs : List (List ℕ)) → length xs ≤ n → drop n xs ≡ []
 gone zero [] h = refl
@@ -174,9 +176,9 @@ view-ended key ends bytes w c whole e =
     let rest = gone (suc c * w) (fields_of ends bytes) (omega arith) in
     rw (next, rows_of-more w c (fields_of ends bytes) all, rest) refl
 
-pub building-ended : (key ends bytes : List ℕ) (w column c : ℕ) → IsBuilding key ends bytes w column c None → 0 < c → length ends - c * w ≡ w
+pub building-ended : (key ends bytes : List ℕ) (w column c : ℕ) → IsBuilding key ends bytes w column c None → 0 < c → length ends - c * w ≡ w → c ≤ row_limit
     → IsBuilding key ends bytes w column (c + 1) None
-building-ended key ends bytes w column c h some e =
+building-ended key ends bytes w column c h some e within =
     let size = length-fields_from 0 ends bytes in
     let next : c + 1 ≡ suc c = omega arith in
     let all : suc c * w ≡ length (fields_of ends bytes) = omega (arith, h.whole) in
@@ -185,7 +187,7 @@ building-ended key ends bytes w column c h some e =
       whole = omega (arith, h.whole);
       few = h.few;
       wide = λ _. h.wide some;
-      clean = λ _. rw (next, rows_of-more w c (fields_of ends bytes) all) (refusal-even key ends bytes w column c h some e);
+      clean = λ _. rw (next, rows_of-more w c (fields_of ends bytes) all) (refusal-even key ends bytes w column c h some e within);
       column = λ none _. h.column none some;
     }
 
@@ -200,6 +202,50 @@ building-refused key ends bytes w column c old f h = record {
   clean = λ e. cc e;
   column = λ e. cc e;
 }
+
+-- a header of few columns
+header_fault-few : (key : List ℕ) (header : List (List ℕ)) → length header ≤ column_limit → header_fault key header ≡ key_fault key header
+unfolding header_fault
+header_fault-few key header few = rw (le-ltb column_limit (length header) few) refl
+
+header_fault-wide : (key : List ℕ) (header : List (List ℕ)) → column_limit < length header → header_fault key header ≡ Some fault.TooManyColumns
+unfolding header_fault
+header_fault-wide key header wide = rw (lt-ltb column_limit (length header) wide) refl
+
+-- records without a fault are no more than a table may have, and not wider
+rows_fault-few : (w n : ℕ) (rows : List (List (List ℕ))) → rows_fault w n rows ≡ None → n ≤ row_limit + 2 → n + length rows ≤ row_limit + 2
+unfolding rows_fault row_fault
+rows_fault-few w n [] none within = omega arith
+rows_fault-few w n (r ∷ rows) none within =
+    let p = parts (row_fault w n r) (rows_fault w (n + 1) rows) none in
+    let low : n ≤ row_limit + 1 = elim (cases_lt (row_limit + 1) n) [
+      | inl past ↦ elim (cases_eq (length r) w) [
+        | inl even ↦ (let wrong = sym (row_fault-past w n r even past) ∙ p.0 in absurd (cc))
+        | inr other ↦ (let wrong = sym (row_fault-ragged w n r other) ∙ p.0 in absurd (cc))
+      ]
+      | inr le ↦ le
+    ] in
+    let more = rows_fault-few w (n + 1) rows p.1 (omega arith) in
+    omega arith
+
+header_fault-narrow : (key : List ℕ) (header : List (List ℕ)) → header_fault key header ≡ None → length header ≤ column_limit
+header_fault-narrow key header none = elim (cases_lt column_limit (length header)) [
+  | inl wide ↦ (let wrong = sym (header_fault-wide key header wide) ∙ none in absurd (cc))
+  | inr le ↦ le
+]
+
+pub building-few : (key ends bytes : List ℕ) (w column c : ℕ) → IsBuilding key ends bytes w column c None → 0 < c → (c - 1 ≤ row_limit) × (w ≤ column_limit)
+unfolding rows_of fault_so_far
+building-few key ends bytes w column zero h some = absurd (omega arith)
+building-few key ends bytes w column (suc k) h some =
+    let size = length-fields_from 0 ends bytes in
+    let header = take w (fields_of ends bytes) in
+    let rows = rows_of w k (drop w (fields_of ends bytes)) in
+    let le = front w (suc k) (fields_of ends bytes) some (omega (arith, h.whole)) in
+    let head : length header ≡ w = rw (length-take w (fields_of ends bytes)) (omega arith) in
+    let count = length-rows_of w k (drop w (fields_of ends bytes)) in
+    let p = parts (header_fault key header) (rows_fault (length header) 2 rows) (h.clean refl) in
+    (omega (arith, rows_fault-few (length header) 2 rows p.1 (omega arith)), omega (arith, header_fault-narrow key header p.0))
 
 -- all the records as a table
 pub finished : (key ends bytes : List ℕ) (w column c : ℕ) → IsBuilding key ends bytes w column c None → 0 < c
@@ -216,6 +262,12 @@ finished key ends bytes w column (suc k) h some =
 -- where no record was ended
 pub at_start : (w c : ℕ) (fields : List (List ℕ)) → rows_of w c fields ≡ [] → c ≡ 0
 at_start w c fields e = sym (length-rows_of w c fields) ∙ ap length e
+
+pub header-few : (key ends bytes : List ℕ) → length ends ≤ column_limit → header_fault key (fields_of ends bytes) ≡ key_fault key (fields_of ends bytes)
+header-few key ends bytes few = header_fault-few key (fields_of ends bytes) (rw (length-fields_from 0 ends bytes) few)
+
+pub header-wide : (key ends bytes : List ℕ) → column_limit < length ends → header_fault key (fields_of ends bytes) ≡ Some fault.TooManyColumns
+header-wide key ends bytes wide = header_fault-wide key (fields_of ends bytes) (rw (length-fields_from 0 ends bytes) wide)
 
 pub refusal-header : (key ends bytes : List ℕ) (w : ℕ) → header_fault key (fields_of ends bytes) ≡ None → refusal_at (building key ends bytes w 0 None) ≡ None
 unfolding fault_so_far rows_fault rows_of

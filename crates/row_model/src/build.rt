@@ -1,11 +1,11 @@
 //! A table from fields that are pushed one by one.
 
 ghost use Rattle.std.specs.Prelude.{◌≡◌, ◌+◌, ◌<◌, ◌≤◌, ◌^◌, ◌++◌, ◌∷◌, ℕ, [], Some, None, length, IfOk, IfErr, OnOk, OnErr};
-ghost use Rattle.row_model.specs.Form.{header_fault, column_of};
-ghost use Rattle.row_model.specs.Layout.{fields_of, Rising, EndsRecord, Finishes};
+ghost use Rattle.row_model.specs.Form.{key_fault, column_of};
+ghost use Rattle.row_model.specs.Layout.{fields_of, Rising, refusal_at, EndsRecord, Finishes};
 
 use crate::rows::{Rows, piece};
-use crate::{RecordFault, RowFault};
+use crate::{COLUMN_LIMIT, ROW_LIMIT, RecordFault, RowFault};
 use proc_table::NoMemory;
 use std::alloc::Global;
 use std::marker::Model;
@@ -40,10 +40,10 @@ fn push_piece(bytes: &mut Vec<u8>, ends: &mut Vec<u32>, field: &[u8]) -> Result<
 fn find_key(bytes: &[u8], ends: &[u32], key: &[u8]) -> Result<u32, RowFault>
     requires rising { Rising 0 ends.now (length bytes.now) }
     requires few { length ends.now < 2 ^ 32 }
-    ensures one { OnOk result (header_fault key.now (fields_of ends.now bytes.now) ≡ None) }
+    ensures one { OnOk result (key_fault key.now (fields_of ends.now bytes.now) ≡ None) }
     ensures column { IfOk result (λ column. column ≡ column_of key.now (fields_of ends.now bytes.now)) }
     ensures inside { IfOk result (λ column. column < length ends.now) }
-    ensures fault { IfErr result (λ f. header_fault key.now (fields_of ends.now bytes.now) ≡ Some f) }
+    ensures fault { IfErr result (λ f. key_fault key.now (fields_of ends.now bytes.now) ≡ Some f) }
 {
     let mut found: Option<u32> = None;
     'columns: for i in 0..ends.len() {
@@ -113,6 +113,15 @@ impl RowsBuilder {
         Ok(())
     }
 
+    // Keeps a refusal of the record at hand.
+    fn refuse(&mut self, fault: RowFault) -> Result<(), RecordFault>
+        requires { refusal_at self.old ≡ Some fault }
+        ensures { EndsRecord self.old result self.new }
+    {
+        self.refusal = Some(fault);
+        Err(RecordFault::Bad(fault))
+    }
+
     // Ends the first record, which is the header.
     fn end_header(&mut self) -> Result<(), RecordFault>
         requires first { self.old.records ≡ [] }
@@ -120,6 +129,9 @@ impl RowsBuilder {
         requires some { 0 < length self.old.fields }
         ensures { EndsRecord self.old result self.new }
     {
+        if self.ends.len() > COLUMN_LIMIT {
+            return self.refuse(RowFault::TooManyColumns);
+        }
         match find_key(
             self.bytes.as_slice(),
             self.ends.as_slice(),
@@ -131,10 +143,7 @@ impl RowsBuilder {
                 self.count = 1;
                 Ok(())
             }
-            Err(fault) => {
-                self.refusal = Some(fault);
-                Err(RecordFault::Bad(fault))
-            }
+            Err(fault) => self.refuse(fault),
         }
     }
 
@@ -152,8 +161,10 @@ impl RowsBuilder {
             let fault = RowFault::Ragged {
                 number: self.count + 1,
             };
-            self.refusal = Some(fault);
-            return Err(RecordFault::Bad(fault));
+            return self.refuse(fault);
+        }
+        if self.count > ROW_LIMIT {
+            return self.refuse(RowFault::TooManyRows);
         }
         self.count += 1;
         Ok(())

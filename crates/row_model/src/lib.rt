@@ -10,6 +10,12 @@ pub use build::RowsBuilder;
 use proc_table::NoMemory;
 pub use rows::{Rows, same};
 
+/// The most columns of a table.
+pub const COLUMN_LIMIT: usize = 256;
+
+/// The most data rows of a table.
+pub const ROW_LIMIT: u32 = 262_144;
+
 /// Which side of a join a table is.
 #[derive(Debug, Clone, Copy, PartialEq, Eq)]
 pub enum Side {
@@ -18,17 +24,21 @@ pub enum Side {
 }
 
 /// Why some records are no table with a key. The first that applies is the one that counts:
-/// the header's faults, then the rows' in their order.
+/// the header's faults, then the rows' in their order, and of one row its length first.
 #[derive(Debug, Clone, Copy, PartialEq, Eq)]
 pub enum RowFault {
     /// There is no record, so there is no header.
     NoHeader,
+    /// The header has more than `COLUMN_LIMIT` fields.
+    TooManyColumns,
     /// No header field is the key's name.
     NoKey,
     /// More than one header field is the key's name.
     TwoKeys,
     /// This record, counted from 1 with the header, has another length than the header.
     Ragged { number: u32 },
+    /// There are more than `ROW_LIMIT` records after the header.
+    TooManyRows,
 }
 
 /// Why a record could not be added.

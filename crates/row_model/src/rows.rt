@@ -3,6 +3,7 @@
 ghost use Rattle.std.specs.Prelude.{◌≡◌, ◌+◌, ◌-◌, ◌*◌, ◌<◌, ◌≤◌, ℕ, [], length, get_or, take, drop, ⊤};
 ghost use Rattle.std.specs.Option.{MatchOption};
 ghost use Rattle.row_model.specs.Table.{field_of, key_of, meets};
+ghost use Rattle.row_model.specs.Form.{column_limit, row_limit};
 ghost use Rattle.row_model.specs.Hash.{fnv1a, hash_of_key};
 ghost use Rattle.row_model.specs.Layout.{fields_of, Rising, rows_of};
 
@@ -70,6 +71,8 @@ impl Rows {
         requires rising { Rising 0 ends.items (length bytes.items) }
         requires whole { (count + 1) * width ≤ length ends.items }
         requires column { column < width }
+        requires few { count ≤ row_limit }
+        requires narrow { width ≤ column_limit }
         ensures header { result.header ≡ take width (fields_of ends.items bytes.items) }
         ensures rows { result.rows ≡ rows_of width count (drop width (fields_of ends.items bytes.items)) }
         ensures column { result.column ≡ column }
@@ -83,16 +86,18 @@ impl Rows {
         }
     }
 
-    /// The number of data rows.
+    /// The number of data rows, at most `ROW_LIMIT`.
     pub fn len(&self) -> u32
-        ensures { result ≡ length self.now.rows }
+        ensures count { result ≡ length self.now.rows }
+        ensures few { result ≤ row_limit }
     {
         self.count
     }
 
-    /// The number of columns, at least 1.
+    /// The number of columns, from 1 to `COLUMN_LIMIT`.
     pub fn width(&self) -> u32
         ensures width { result ≡ length self.now.header }
+        ensures narrow { result ≤ column_limit }
         ensures column { self.now.column < result }
         ensures even { (r : ℕ) → r < length self.now.rows → length (get_or self.now.rows r []) ≡ result }
     {

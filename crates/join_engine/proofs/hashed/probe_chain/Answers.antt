@@ -1,10 +1,13 @@
-use Rattle.std.proofs.Common.{◌≡◌, ◌∙◌, ℕ, ◌+◌, Option, Some, ◌∷◌, length, get_or, refl, arith}
+use Rattle.std.proofs.Common.{◌≡◌, ◌∙◌, ℕ, ◌+◌, Option, Some, ◌∷◌, ◌++◌, length, get_or, refl, arith}
 use Rattle.std.specs.Prelude.{slice_get}
-use Rattle.row_model.specs.Table.{Table}
+use Rattle.std.proofs.lemmas.List.{length-append}
+use Rattle.std.proofs.lemmas.Result.{err_from_is_err_and}
+use Rattle.row_model.specs.Table.{Table, pairs_of}
 use Rattle.join_engine.specs.declared.chains.Chains.{Chains}
 use Rattle.join_engine.specs.Chains.{row_at, IsChained}
 use Rattle.join_engine.specs.Looks.{rows_from}
-use Rattle.join_engine.proofs.ChainFacts.{chain_at, chain_at-first, confirmed-more, confirmed-whole, first-chain_at, link-is}
+use Rattle.join_engine.proofs.ChainFacts.{chain_at, chain_at-first, confirmed-counts, confirmed-more, confirmed-whole, first-chain_at, link-is}
+use Rattle.join_engine.proofs.PairFacts.{shows-more}
 use Rattle.join_engine.proofs.hashed.probe_chain.Goals as goal
 
 pub chain-init : goal.chain-init
@@ -14,6 +17,7 @@ chain-init g c =
     record {
       known = first-chain_at c.args.inner.now 0 c.args.hash c.first-candidate.result first;
       pairs = rw (all, confirmed-whole c.args.outer.now c.args.inner.now c.args.o c.args.hash c.requires.hash) refl;
+      few = c.requires.few;
       looks = rw all (omega arith);
     }
 
@@ -50,5 +54,15 @@ chain-preserved g c =
     record {
       known = step.known;
       pairs = rw step.there (confirmed-more c.args.outer.now c.args.inner.now c.args.o c.in-Some.i rows c.chain.pairs.items c.confirm.new.pairs.items _ c.in_ok-confirm.ensures.pairs all);
+      few = c.in_ok-confirm.ensures.few;
       looks = rw step.there (omega arith);
     }
+
+pub returns-in_err-confirm-clause-too_many : goal.returns-in_err-confirm-clause-too_many
+returns-in_err-confirm-clause-too_many g c =
+    let given = err_from_is_err_and c.from_residual.result c.from_residual.ensures.1 in
+    let link = link-is c.args.inner.now c.args.hash c.in-Some.i (rw c.in-Some.is at c.chain.invariant.known) in
+    let all = rw (c.in-Some.is, link.rest) at c.chain.invariant.pairs in
+    let pairs = pairs_of c.args.outer.now c.args.inner.now c.args.o in
+    let le = confirmed-counts c.args.outer.now c.args.inner.now c.args.o c.in-Some.i (rows_from c.args.inner.now (c.in-Some.i + 1) c.args.hash) c.chain.pairs.items (c.args.pairs.now.items ++ pairs) all in
+    rw (given.1, given.2) (shows-more _ (length c.args.pairs.now.items + length pairs) c.in_err-confirm.field-0.0 (omega (arith, le, length-append c.args.pairs.now.items pairs)) c.in_err-confirm.ensures.too_many)

@@ -5,7 +5,7 @@ use Rattle.join_engine.proofs.chains.Chains.of.Goals as goal
 
 pub rows-init : goal.rows-init
 rows-init g c = record {
-  count = c.len-count.ensures;
+  count = c.len-count.ensures.count;
   size = search rules;
   heads = λ hash. rw (c.new-heads.ensures.empty, rows_from-end c.args.rows.now c.len-count.result hash (omega arith)) refl;
   next = λ row hash le few key. absurd (omega arith);
