@@ -109,7 +109,7 @@ fn one_backend_has_one_number(rt: HostRuntime) -> Result<(), Fail> {
 
 // Waits for its turn and gives it to the other, many times.
 fn pass_turns<R: Wait>(rt: &R, table: &Latches, mut seat: Seat, other: ProcNo) -> Seat
-    requires table { (seat.table_id ≡ table.now.table_id) × (other < table.now.size.procs) }
+    requires table { (seat.table_id ≡ table.now.table_id) × (other < table.now.procs) }
     requires place { seat.view.place ≡ [] }
     ensures { (result.table_id ≡ seat.table_id) × (result.view.place ≡ []) }
 {
@@ -129,18 +129,18 @@ fn both_pass<R: Threads + Wait + Sync>(
     first: ProcNo,
     second: ProcNo,
 ) -> (Seat, Seat)
-    requires table { (zero.table_id ≡ table.now.table_id) × (one.table_id ≡ table.now.table_id) × (first < table.now.size.procs) × (second < table.now.size.procs) }
+    requires table { (zero.table_id ≡ table.now.table_id) × (one.table_id ≡ table.now.table_id) × (first < table.now.procs) × (second < table.now.procs) }
     requires place { (zero.view.place ≡ []) × (one.view.place ≡ []) }
     ensures { (result.0.table_id ≡ zero.table_id) × (result.0.view.place ≡ []) × (result.1.table_id ≡ one.table_id) × (result.1.view.place ≡ []) }
 {
     join(
         rt,
         move || -> Seat
-            requires { (zero.table_id ≡ table.now.table_id) × (second < table.now.size.procs) × (zero.view.place ≡ []) }
+            requires { (zero.table_id ≡ table.now.table_id) × (second < table.now.procs) × (zero.view.place ≡ []) }
             ensures { (result.table_id ≡ zero.table_id) × (result.view.place ≡ []) }
         { pass_turns(rt, table, zero, second) },
         move || -> Seat
-            requires { (one.table_id ≡ table.now.table_id) × (first < table.now.size.procs) × (one.view.place ≡ []) }
+            requires { (one.table_id ≡ table.now.table_id) × (first < table.now.procs) × (one.view.place ≡ []) }
             ensures { (result.table_id ≡ one.table_id) × (result.view.place ≡ []) }
         { pass_turns(rt, table, one, first) },
     )

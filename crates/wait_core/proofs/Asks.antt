@@ -18,14 +18,14 @@ use Rattle.wait_core.specs.Parties.{with_client, newcomer, joined, left_over, Is
 use Rattle.wait_core.specs.Seating.{numbers_of, party_of, client_moved, with_drawn, stays, comes, took_in, spent_view}
 use Rattle.wait_core.specs.Rule.{Rule}
 use Rattle.wait_core.specs.Told.{does, does_client, looks, draws, Turns, Cuts, Glues}
-use Rattle.wait_core.specs.Seats.{TableView, table_view}
+use Rattle.wait_core.specs.Seats.{TableView, table_view, size_of}
 use Rattle.wait_core.proofs.RuleKept.{step_kept, word_inside, own_below}
 use Rattle.wait_core.proofs.SeatsKept.{client_kept, draw_kept, seat_kept, join_kept}
 
 -- what a call's caller knows of a table's value, the call owes of its fields, of what the table was told once, and of an operation that equals another
 pub asked : {A C X : Type 0} (key about : A) → key ≡ about → (party : A → X) (size : A → Size) (phase count : A → ℕ) (law : X → List ℕ → List (PartyView C) → List ℕ → Type 0) (words_of : X → ℕ) (tid : TableId) (t : TableView X) → table_view tid (party about) (size about) (phase about) ≡ t → count about ≡ words_of (party about)
     → (seat : TableId) (id : ℕ) (me : Me Kept (WaitView C)) (word : ℕ) (o p : ClientOp) → o ≡ p → (gives : ℕ → Me Kept (WaitView C) → Type 0)
-    → (seat ≡ t.table_id) × (word < t.table_id.words) → Turns (law t.party) t.size t.phase (words_of t.party) t.table_id.slots id me word (op_gives o) gives
+    → (seat ≡ t.table_id) × (word < t.table_id.words) → Turns (law t.party) (size_of t) t.phase (words_of t.party) t.table_id.slots id me word (op_gives o) gives
     → (seat ≡ tid) × (word < tid.words) × Turns (law (party key)) (size key) (phase key) (count key) tid.slots id me word (op_gives p) gives
 asked key about told party size phase count law words_of tid t is counted seat id me word o p same gives table h =
     let tid_is : tid ≡ t.table_id = ap (λ (x : TableView _). x.table_id) is in (
@@ -34,7 +34,7 @@ asked key about told party size phase count law words_of tid t is counted seat i
       subst (λ (a : _). Turns (law (party a)) (size a) (phase a) (count a) tid.slots id me word (op_gives p) gives) (sym told)
           (subst (λ (x : ClientOp). Turns (law (party about)) (size about) (phase about) (count about) tid.slots id me word (op_gives x) gives) same
           (subst (λ (n : ℕ). Turns (law (party about)) (size about) (phase about) n tid.slots id me word (op_gives o) gives) (sym counted)
-          (subst (λ (x : TableView _). Turns (law x.party) x.size x.phase (words_of x.party) x.table_id.slots id me word (op_gives o) gives) (sym is) h))),
+          (subst (λ (x : TableView _). Turns (law x.party) (size_of x) x.phase (words_of x.party) x.table_id.slots id me word (op_gives o) gives) (sym is) h))),
     )
 
 module _ {C : Type 0} (holds : List ℕ → List (PartyView C) → List ℕ → Type 0) (z : Size) (phase count : ℕ) where

@@ -16,7 +16,9 @@ pub record SeatView (C : Type 0) : Type 0 where
 pub record TableView (P : Type 0) : Type 0 where
   pub table_id : TableId
   pub party : P
-  pub size : Size
+  pub procs : ℕ
+  pub cvs : ℕ
+  pub bars : ℕ
   pub phase : ℕ
 
 abbrev pub seat_view : {C : Type 0} → Seat Kept (WaitView C) → SeatView C
@@ -27,4 +29,7 @@ abbrev pub IsSeated : {C : Type 0} → Seat Kept (WaitView C) → ℕ → Type 0
 IsSeated s number = (s.me.1 ≡ []) × (s.me.0.own ≡ Some number) × (s.me.0.pending ≡ None) × (byte_at number < s.table_id.words)
 
 abbrev pub table_view : {P : Type 0} → TableId → P → Size → ℕ → TableView P
-table_view t party z phase = record { table_id = t; party = party; size = z; phase = phase }
+table_view t party z phase = record { table_id = t; party = party; procs = z.procs; cvs = z.cvs; bars = z.bars; phase = phase }
+
+abbrev pub size_of : {P : Type 0} → TableView P → Size
+size_of t = record { procs = t.procs; cvs = t.cvs; bars = t.bars }

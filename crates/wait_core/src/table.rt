@@ -8,6 +8,7 @@ ghost use Rattle.wait_core.specs.Places.{is_asleep};
 ghost use Rattle.wait_core.specs.Seating.{party_of, fresh, client_moved, after_draw, stays, took_in};
 ghost use Rattle.wait_core.specs.Told.{Turns, Cuts};
 ghost use Rattle.wait_core.specs.Closing.{Ends, Stood};
+ghost use Rattle.wait_core.specs.Seats.{size_of};
 
 use crate::closed::WaitClosed;
 use crate::opening::{opening_homes, opening_row};
@@ -63,7 +64,7 @@ impl<P: Party> WaitTable<P> {
         requires bars { (0 < bars) × (bars ≤ 72) × (bars ≤ cvs) }
         requires phase { opening_phase ≤ 2 ^ 62 }
         requires opening { P.holds party (opened (P.opens party) (P.word_count party)) (newcomer (P.first party) (Some 0) ∷ []) (phases (record { procs = procs; cvs = cvs; bars = bars }) opening_phase) }
-        ensures table { IfOk result (λ t. (t.0.party ≡ party) × (t.0.size ≡ record { procs = procs; cvs = cvs; bars = bars }) × (t.0.phase ≡ opening_phase)) }
+        ensures table { IfOk result (λ t. (t.0.party ≡ party) × (t.0.procs ≡ procs) × (t.0.cvs ≡ cvs) × (t.0.bars ≡ bars) × (t.0.phase ≡ opening_phase)) }
         ensures seat { IfOk result (λ t. (t.1.table_id ≡ t.0.table_id) × (t.1.view ≡ fresh (P.first party) (Some 0))) }
     {
         let size = Size { procs, cvs, bars };
@@ -94,7 +95,7 @@ impl<P: Party> WaitTable<P> {
 
     /// The number of backends, 1 to 64.
     pub fn procs(&self) -> u32
-        ensures procs { result ≡ self.now.size.procs }
+        ensures procs { result ≡ self.now.procs }
         ensures range { (0 < result) × (result ≤ 64) }
     {
         self.about.size.procs
@@ -107,7 +108,7 @@ impl<P: Party> WaitTable<P> {
         requires first { from.old.view.own ≡ Some 0 }
         ensures table { (from.new.table_id ≡ from.old.table_id) × (from.new.id ≡ from.old.id) }
         ensures from { MatchResult result (λ _. from.new.view ≡ after_draw from.old.view) (λ _. from.new.view ≡ from.old.view) }
-        ensures drawn { MatchResult result (λ s. (from.old.view.drawn + 1 < self.now.size.procs) × (s.table_id ≡ from.old.table_id) × (s.view ≡ fresh (P.first self.now.party) (Some (from.old.view.drawn + 1)))) (λ e. (e.drawn ≡ self.now.size.procs) × (e.drawn ≡ from.old.view.drawn + 1)) }
+        ensures drawn { MatchResult result (λ s. (from.old.view.drawn + 1 < self.now.procs) × (s.table_id ≡ from.old.table_id) × (s.view ≡ fresh (P.first self.now.party) (Some (from.old.view.drawn + 1)))) (λ e. (e.drawn ≡ self.now.procs) × (e.drawn ≡ from.old.view.drawn + 1)) }
     {
         let look = ClientOp::Load { at: 0 };
         let next = self.make::<Brand, ClientOp>(&mut from.seat, 0, look, &look);
@@ -127,9 +128,9 @@ impl<P: Party> WaitTable<P> {
     /// for each word by the steps that stand in the views (`laws::words_are_made`).
     pub fn step(&self, seat: &mut WaitSeat<P>, step: WaitStep) -> WaitSeen
         requires table { seat.old.table_id ≡ self.now.table_id }
-        requires place { Allowed self.now.size step seat.old.view }
+        requires place { Allowed (size_of self.now) step seat.old.view }
         ensures table { (seat.new.table_id ≡ seat.old.table_id) × (seat.new.id ≡ seat.old.id) }
-        ensures view { seat.new.view ≡ next self.now.size step seat.old.view result.old }
+        ensures view { seat.new.view ≡ next (size_of self.now) step seat.old.view result.old }
         ensures changed { result.changed ≡ writes step }
         ensures told { result.old ≤ 1 }
     {
@@ -224,7 +225,7 @@ impl<P: Party> WaitTable<P> {
         _why: &X,
     ) -> u64
         requires table { (seat.old.table_id ≡ self.now.table_id) × (word < self.now.table_id.words) }
-        requires told { Turns (P.holds self.now.party) self.now.size self.now.phase (P.word_count self.now.party) self.now.table_id.slots seat.old.id seat.old.me word (op_gives op) M.gives }
+        requires told { Turns (P.holds self.now.party) (size_of self.now) self.now.phase (P.word_count self.now.party) self.now.table_id.slots seat.old.id seat.old.me word (op_gives op) M.gives }
         ensures table { (seat.new.table_id ≡ seat.old.table_id) × (seat.new.id ≡ seat.old.id) }
         ensures told { M.gives result seat.new.me }
     {
@@ -245,7 +246,7 @@ impl<P: Party> WaitTable<P> {
         seat: &mut Seat<Kept, WaitView<P::View>>,
     ) -> Seat<Kept, WaitView<P::View>>
         requires table { (seat.old.table_id ≡ self.now.table_id) × (0 < self.now.table_id.words) }
-        requires rule { Cuts (P.holds self.now.party) self.now.size self.now.phase (P.word_count self.now.party) seat.old.id seat.old.me.0 (stays seat.old.me.0) (M.right seat.old.me.0) }
+        requires rule { Cuts (P.holds self.now.party) (size_of self.now) self.now.phase (P.word_count self.now.party) seat.old.id seat.old.me.0 (stays seat.old.me.0) (M.right seat.old.me.0) }
         ensures kept { (seat.new.table_id ≡ seat.old.table_id) × (seat.new.id ≡ seat.old.id) × (seat.new.me ≡ (stays seat.old.me.0, seat.old.me.1)) }
         ensures given { (result.table_id ≡ seat.old.table_id) × (result.me ≡ (M.right seat.old.me.0, [])) }
     {
@@ -254,7 +255,7 @@ impl<P: Party> WaitTable<P> {
 
     // The word of the client that it calls `at`.
     fn client_word(&self, at: u32) -> usize
-        ensures { result ≡ client_base self.now.size + at }
+        ensures { result ≡ client_base (size_of self.now) + at }
     {
         let size = &self.about.size;
         3 * size.procs as usize + 2 + size.cvs as usize + size.bars as usize + at as usize
@@ -262,7 +263,7 @@ impl<P: Party> WaitTable<P> {
 
     // The word that the step of the backend `own` is on.
     fn step_word(&self, step: WaitStep, own: ProcNo) -> usize
-        ensures { result ≡ word_of self.now.size own step }
+        ensures { result ≡ word_of (size_of self.now) own step }
     {
         let own = own.number() as usize;
         match step {

@@ -1,4 +1,5 @@
 use Rattle.std.proofs.Common.{true, None, List, [], ◌∷◌, ◌++◌, refl, ap, ◌∙◌}
+use Rattle.wait_core.specs.Seats.{size_of}
 use Rattle.wait_core.specs.declared.step.WaitStep.TheVariants.{Mstore, Sload, Shload}
 use Rattle.wait_core.specs.declared.view.Made.{Made}
 use Rattle.wait_core.specs.declared.view.Frame.TheVariants.{Announcing, Rechecking, Repeating}
@@ -11,7 +12,7 @@ use Rattle.latch.proofs.wait.look_and_sleep.Goals.{in-LatchOrShutdown+else-step-
 pub returns-clause-woke : goal.returns-clause-woke
 returns-clause-woke g c =
     let v = c.args.seat.now.view in
-    let z = c.args.table.now.size in
+    let z = (size_of c.args.table.now) in
     let u = c.args.until in
     let rest = outer v.place in
     let n = c.step.result.old in

@@ -1,4 +1,5 @@
 use Rattle.std.proofs.Common.{false, true, List, [], ◌∷◌, ◌++◌, refl, ap, ◌∙◌}
+use Rattle.wait_core.specs.Seats.{size_of}
 use Rattle.wait_core.specs.declared.step.WaitStep.TheVariants.{Mstore, Look, Drain}
 use Rattle.wait_core.specs.declared.view.Made.{Made}
 use Rattle.wait_core.specs.declared.view.Frame.TheVariants.{Retracting, Draining}
@@ -13,7 +14,7 @@ loop-init g c = (refl, refl, (false, [], went_nil c.args.seat.now.view _ c.requi
 pub returns-then-step-eq1-clause-woken : goal.returns-then-step-eq1-clause-woken
 returns-then-step-eq1-clause-woken g c =
     let v = c.args.seat.now.view in
-    let z = c.args.table.now.size in
+    let z = (size_of c.args.table.now) in
     let u = c.args.until in
     let inv = c.loop.invariant.2 in
     let rest = outer v.place in
@@ -32,5 +33,5 @@ loop-preserved g c =
     let inv = c.loop.invariant.2 in
     let rest = outer v.place in
     let looks : List Made = inv.1 ++ made Look 0 ∷ [] in
-    let clear = went_on c.args.table.now.size v _ _ (watches u inv.0 ∷ rest) inv.1 Look _ 0 inv.2 c.step.ensures.view (clear_or_set c.step.result.old c.step.ensures.told c.if-step-eq1.false) ∙ ap (λ p. went v p looks) (found_clear u inv.0 rest) in
+    let clear = went_on (size_of c.args.table.now) v _ _ (watches u inv.0 ∷ rest) inv.1 Look _ 0 inv.2 c.step.ensures.view (clear_or_set c.step.result.old c.step.ensures.told c.if-step-eq1.false) ∙ ap (λ p. went v p looks) (found_clear u inv.0 rest) in
     ((cc), (cc), (true, looks, ap (λ s. s.view) c.park.ensures ∙ clear, λ p. only-append p u inv.1 _ (inv.3 p) (tt, tt)))

@@ -1,4 +1,5 @@
 use Rattle.std.proofs.Common.{List, [], ◌∷◌, ◌++◌, None, Some, refl, ap, ◌∙◌}
+use Rattle.wait_core.specs.Seats.{size_of}
 use Rattle.wait_core.specs.declared.step.Call.TheVariants as call
 use Rattle.wait_core.specs.declared.step.WaitStep.TheVariants.{Sload}
 use Rattle.wait_core.specs.declared.view.Frame.TheVariants.{Repeating}
@@ -26,7 +27,7 @@ returns-then-step-eq1-2-clause-woke g c =
     let woke = c.in_default.ensures.woke in
     let before : List Made = made (Sload c.args.own (Some (call.Wait c.args.until))) 0 ∷ inv.0 ++ woke.0 in
     let back = went_through v mid _ _ (Repeating c.args.until ∷ v.place) _ woke.0 inv.1 (woke.1 ∙ ap (λ w. went mid (Repeating c.args.until ∷ outer w.place) woke.0) inv.1) in
-    (before ++ made (Sload c.args.own None) 1 ∷ [], went_on c.args.table.now.size v _ _ (Repeating c.args.until ∷ v.place) before (Sload c.args.own None) _ 1 back c.step-in-loop.ensures.view c.if-step-eq1-2.true, record { found = 0; then = (inv.0 ++ woke.0) ++ made (Sload c.args.own None) 1 ∷ []; split = refl; only = only-append c.args.own c.args.until (inv.0 ++ woke.0) _ (only-append c.args.own c.args.until inv.0 woke.0 inv.2 woke.2) (refl, tt) }, record { before = before; begins = None; then = []; split = refl })
+    (before ++ made (Sload c.args.own None) 1 ∷ [], went_on (size_of c.args.table.now) v _ _ (Repeating c.args.until ∷ v.place) before (Sload c.args.own None) _ 1 back c.step-in-loop.ensures.view c.if-step-eq1-2.true, record { found = 0; then = (inv.0 ++ woke.0) ++ made (Sload c.args.own None) 1 ∷ []; split = refl; only = only-append c.args.own c.args.until (inv.0 ++ woke.0) _ (only-append c.args.own c.args.until inv.0 woke.0 inv.2 woke.2) (refl, tt) }, record { before = before; begins = None; then = []; split = refl })
 
 pub loop-preserved : goal.loop-preserved
 loop-preserved g c =
@@ -36,4 +37,4 @@ loop-preserved g c =
     let woke = c.in_default.ensures.woke in
     let before : List Made = made (Sload c.args.own (Some (call.Wait c.args.until))) 0 ∷ inv.0 ++ woke.0 in
     let back = went_through v mid _ _ (Repeating c.args.until ∷ v.place) _ woke.0 inv.1 (woke.1 ∙ ap (λ w. went mid (Repeating c.args.until ∷ outer w.place) woke.0) inv.1) in
-    ((cc), (cc), ((inv.0 ++ woke.0) ++ made (Sload c.args.own None) 0 ∷ [], went_on c.args.table.now.size v _ _ (Repeating c.args.until ∷ v.place) before (Sload c.args.own None) _ 0 back c.step-in-loop.ensures.view (clear_or_set c.step-in-loop.result.old c.step-in-loop.ensures.told c.if-step-eq1-2.false), only-append c.args.own c.args.until (inv.0 ++ woke.0) _ (only-append c.args.own c.args.until inv.0 woke.0 inv.2 woke.2) (refl, tt)))
+    ((cc), (cc), ((inv.0 ++ woke.0) ++ made (Sload c.args.own None) 0 ∷ [], went_on (size_of c.args.table.now) v _ _ (Repeating c.args.until ∷ v.place) before (Sload c.args.own None) _ 0 back c.step-in-loop.ensures.view (clear_or_set c.step-in-loop.result.old c.step-in-loop.ensures.told c.if-step-eq1-2.false), only-append c.args.own c.args.until (inv.0 ++ woke.0) _ (only-append c.args.own c.args.until inv.0 woke.0 inv.2 woke.2) (refl, tt)))

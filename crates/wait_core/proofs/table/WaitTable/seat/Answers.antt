@@ -1,6 +1,7 @@
 use Rattle.std.proofs.Common.{rules, ◌+◌, ◌%◌, ◌^◌, arith, ap, ◌∙◌}
 use Rattle.atomic_table.specs.Table.{step}
 use mathlib.Core.Option.{none}
+use Rattle.wait_core.specs.Seats.{size_of}
 use Rattle.wait_core.specs.Told.{Turns, draws}
 use Rattle.seat_roster.proofs.Stretches.{for_same}
 use Rattle.wait_core.proofs.Asks.{looks_allowed, draws_allowed, cuts_allowed}
@@ -10,7 +11,7 @@ pub make-next-requires-clause-told : goal.make-next-requires-clause-told
 make-next-requires-clause-told g c κs within =
     let t = c.args.self.now in
     let seat = c.from.inside.seat in
-    looks_allowed (g.P.Party.holds t.party) t.size t.phase (g.P.Party.word_count t.party) t.table_id.slots seat.id seat.me
+    looks_allowed (g.P.Party.holds t.party) (size_of t) t.phase (g.P.Party.word_count t.party) t.table_id.slots seat.id seat.me
 
 pub fetch_add-requires : goal.fetch_add-requires
 fetch_add-requires g c =
@@ -33,5 +34,5 @@ split-seat-requires-clause-rule g c κs within =
     let t = c.args.self.now in
     let seat = c.fetch_add.new.seat in
     let laws = g.met.P.Party g.world.𝓛 g.world.𝓜 g.world.𝓡 ((λ s x. x), (λ x. x), (λ x. x), λ x. x) in
-    cuts_allowed (g.P.Party.holds t.party) t.size t.phase (g.P.Party.word_count t.party) seat.id seat.me.0 _ (ap (λ v. v.pending) c.fetch_add.ensures.2.0) (g.P.Party.first t.party)
+    cuts_allowed (g.P.Party.holds t.party) (size_of t) t.phase (g.P.Party.word_count t.party) seat.id seat.me.0 _ (ap (λ v. v.pending) c.fetch_add.ensures.2.0) (g.P.Party.first t.party)
     (λ words views phases proc kept at. laws.draw_keeps t.party words views phases proc kept at)
