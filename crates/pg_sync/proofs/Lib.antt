@@ -2,3 +2,5 @@ pub mod WordFacts
 pub mod CompleteFacts
 pub mod WrittenFacts
 pub mod FaultlessFacts
+pub mod NumberFacts
+pub mod MakeFacts

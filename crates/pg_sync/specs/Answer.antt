@@ -17,7 +17,8 @@ use Rattle.csv_tables.specs.Text.{joined_text}
 use Rattle.join_engine.specs.Limit.{pair_limit}
 use Rattle.pg_sync.specs.declared.status.Status.{Status}
 use Rattle.pg_sync.specs.declared.status.Status.TheVariants as status
-use Rattle.pg_sync.specs.Words.{Job}
+use Rattle.pg_sync.specs.Make.{made_pairs, made_text}
+use Rattle.pg_sync.specs.Words.{Job, Task, Join, Make}
 
 -- the pairs of the nested-loop join of two inputs by one thread
 abbrev pub pairs_of : Job → List ℕ → List ℕ → List Pair
@@ -215,6 +216,7 @@ refusal_of s (load.Bad f) = status.BadInput s f
 refusal_of s load.NoMemory = status.NoMemory
 
 -- the text that is due for a list of words
-abbrev pub text_for : Option Job → (List ℕ → Option (List ℕ)) → Option (List ℕ)
+abbrev pub text_for : Option Task → (List ℕ → Option (List ℕ)) → Option (List ℕ)
 text_for None held = None
-text_for (Some job) held = due_text job (held job.inner) (held job.outer)
+text_for (Some (Join job)) held = due_text job (held job.inner) (held job.outer)
+text_for (Some (Make rows start workers)) held = Some (text_within (length (made_pairs rows start)) (made_text rows start))

@@ -1,3 +1,5 @@
+pub mod Numbers
 pub mod Words
 pub mod Answer
 pub mod Line
+pub mod Make

@@ -1,4 +1,4 @@
-//! Joins two CSV files by a key, and prints the rows that meet.
+//! Joins two CSV files by a key, and prints the rows that meet; or joins two tables of drawn keys.
 #![tactic(auto)]
 
 ghost use Rattle.std.specs.Prelude.{◌≡◌, [], IfOk};
@@ -6,6 +6,8 @@ ghost use Rattle.csv_tables.specs.Streams.{gathered_of};
 
 mod join;
 mod line;
+mod make;
+mod numbers;
 mod run;
 mod status;
 mod words;

@@ -1,13 +1,16 @@
 //! The top call.
 
-ghost use Rattle.std.specs.Prelude.{◌≡◌, ◌↔◌, map, string_bytes, None, IfSome};
+ghost use Rattle.std.specs.Prelude.{◌≡◌, ◌↔◌, map, length, string_bytes, ◌⊎◌, None};
 ghost use Rattle.row_model.specs.declared.Side.TheVariants as side;
-ghost use Rattle.pg_sync.specs.Answer.{AllIsThere, BytesShow, CountsShow, Decided, Leaves, NoneFailed, counts_of, due_text, text_for};
+ghost use Rattle.csv_tables.specs.Faults.{Rose};
+ghost use Rattle.pg_sync.specs.Answer.{AllIsThere, BytesShow, CountsShow, Decided, JoinShows, Leaves, NoneFailed, counts_of, due_text, text_for};
 ghost use Rattle.pg_sync.specs.Line.{TakesLine, line_of};
-ghost use Rattle.pg_sync.specs.Words.{command_of};
+ghost use Rattle.pg_sync.specs.Make.{made_answer, made_pairs, made_text};
+ghost use Rattle.pg_sync.specs.Words.{IfJoin, IfMake, command_of};
 
 use crate::join::run_join;
 use crate::line::write_line;
+use crate::make::run_make;
 use crate::status::Status;
 use crate::words::{Command, read_words};
 use csv_tables::{Inputs, Sink};
@@ -18,7 +21,8 @@ use std::sync::Wait;
 use std::thread::Threads;
 
 /// Runs the command that the words name: a join writes to `out` exactly the bytes of the
-/// nested-loop join by one thread and answers `Done`, or answers the first refusal that applies.
+/// nested-loop join by one thread and answers `Done`, or answers the first refusal that applies, and
+/// `make` the size and the total of such a join of drawn keys.
 /// A refusal writes nothing to `out`, save that a failed write or want of memory leaves a front of
 /// the text, and prints its line on `err`.
 pub fn run<R: Threads + Wait + Sync, I: Inputs, S: Sink, E: Sink, G: Gate>(
@@ -30,8 +34,8 @@ pub fn run<R: Threads + Wait + Sync, I: Inputs, S: Sink, E: Sink, G: Gate>(
     err: &mut E,
     gate: &G,
 ) -> Status
-    requires inner { IfSome (command_of (map string_bytes words.now)) (λ job. I.may_open inputs.old side.Inner job.inner) }
-    requires outer { IfSome (command_of (map string_bytes words.now)) (λ job. I.may_open inputs.old side.Outer job.outer) }
+    requires inner { IfJoin (command_of (map string_bytes words.now)) (λ job. I.may_open inputs.old side.Inner job.inner) }
+    requires outer { IfJoin (command_of (map string_bytes words.now)) (λ job. I.may_open inputs.old side.Outer job.outer) }
 
     // Words exactly where the words name no command.
     ensures grammar { (result ≡ Status.Words) ↔ (command_of (map string_bytes words.now) ≡ None) }
@@ -40,19 +44,27 @@ pub fn run<R: Threads + Wait + Sync, I: Inputs, S: Sink, E: Sink, G: Gate>(
     ensures written { Leaves (S.taken out.old) (S.taken out.new) (text_for (command_of (map string_bytes words.now)) (I.held inputs.old)) result }
 
     // Each answer of a join has its cause: in the bytes, and in the counts of faults.
-    ensures bytes { IfSome (command_of (map string_bytes words.now)) (λ job. BytesShow job (I.held inputs.old job.inner) (I.held inputs.old job.outer) result) }
-    ensures counts { IfSome (command_of (map string_bytes words.now)) (λ _. CountsShow (counts_of I.open_faults I.read_faults inputs.old)
+    ensures bytes { IfJoin (command_of (map string_bytes words.now)) (λ job. BytesShow job (I.held inputs.old job.inner) (I.held inputs.old job.outer) result) }
+    ensures counts { IfJoin (command_of (map string_bytes words.now)) (λ _. CountsShow (counts_of I.open_faults I.read_faults inputs.old)
         (counts_of I.open_faults I.read_faults inputs.new) (S.faults out.old) (S.faults out.new) result) }
 
     // Where no fault comes before it, a join answers what the bytes decide, or memory ran out.
-    ensures completeness { IfSome (command_of (map string_bytes words.now)) (λ job. Decided job (I.held inputs.old job.inner) (I.held inputs.old job.outer)
+    ensures completeness { IfJoin (command_of (map string_bytes words.now)) (λ job. Decided job (I.held inputs.old job.inner) (I.held inputs.old job.outer)
         (counts_of I.open_faults I.read_faults inputs.old) (counts_of I.open_faults I.read_faults inputs.new) (S.faults out.old) (S.faults out.new) result) }
 
     // Where no call of the inputs will fail, both names are there and the sink has room for the
     // text that is due, no fault rises.
-    ensures faultless { IfSome (command_of (map string_bytes words.now)) (λ job. AllIsThere (I.is_steady inputs.old) (I.held inputs.old job.inner) (I.held inputs.old job.outer)
+    ensures faultless { IfJoin (command_of (map string_bytes words.now)) (λ job. AllIsThere (I.is_steady inputs.old) (I.held inputs.old job.inner) (I.held inputs.old job.outer)
         (S.taken out.old) (S.capacity out.old) (due_text job (I.held inputs.old job.inner) (I.held inputs.old job.outer))
         → NoneFailed (counts_of I.open_faults I.read_faults inputs.old) (counts_of I.open_faults I.read_faults inputs.new) (S.faults out.old) (S.faults out.new)) }
+
+    // `make` writes its two lines, or is refused for too many pairs, a failed write or want of memory.
+    ensures make { IfMake (command_of (map string_bytes words.now)) (λ rows start.
+        JoinShows (length (made_pairs rows start)) (made_text rows start) (S.taken out.old) (S.taken out.new) (S.faults out.old) (S.faults out.new) result) }
+
+    // Where no write fails, `make` answers what its numbers decide, or memory ran out.
+    ensures make_completeness { IfMake (command_of (map string_bytes words.now)) (λ rows start.
+        (Rose (S.faults out.old) (S.faults out.new) → ⊥) → (result ≡ made_answer rows start) ⊎ (result ≡ Status.NoMemory)) }
 
     // The line of the answer, or a proper front of it where a write of it failed.
     ensures err_line { TakesLine (E.taken err.old) (E.taken err.new) (E.faults err.old) (E.faults err.new) (line_of result) }
@@ -61,6 +73,10 @@ pub fn run<R: Threads + Wait + Sync, I: Inputs, S: Sink, E: Sink, G: Gate>(
         None => write_line(Status::Words, err),
         Some(Command::Join(job)) => {
             let status = run_join(rt, alloc, &job, inputs, out, gate);
+            write_line(status, err)
+        }
+        Some(Command::Make { rows, start, .. }) => {
+            let status = run_make(alloc, rows, start, out);
             write_line(status, err)
         }
     }

@@ -1,8 +1,9 @@
 //! The words of a command.
 
-ghost use Rattle.std.specs.Prelude.{◌≡◌, map, option_map, string_bytes, IfSome};
-ghost use Rattle.pg_sync.specs.Words.{is_input, is_join, job_in, command_of, plan_in, workers_in};
+ghost use Rattle.std.specs.Prelude.{◌≡◌, length, map, option_map, string_bytes, IfSome};
+ghost use Rattle.pg_sync.specs.Words.{HasPlan, HasRows, command_of, is_input, is_join, make_of, task_in, workers_of};
 
+use crate::numbers::number_of;
 use row_model::Plan;
 
 /// The words of a join: the names of its inputs and of their keys, and how it is to run.
@@ -18,7 +19,17 @@ pub struct JoinWords<'w> {
 /// What the words ask for.
 #[derive(Clone, Copy)]
 pub enum Command<'w> {
+    /// The join of two inputs.
     Join(JoinWords<'w>),
+    /// The join of two tables of `rows` keys each, drawn from `start` on.
+    Make { rows: u32, start: u32, workers: u32 },
+}
+
+// The number of workers that a word names.
+fn workers_of(word: &str) -> Option<u32>
+    ensures { result ≡ workers_of word.now }
+{
+    number_of(word, 1, 1)
 }
 
 // Whether a word may name an input: it isn't empty and is no option.
@@ -46,18 +57,16 @@ fn is_join(
         && first == "--inner-key"
         && second == "--outer-key"
         && third == "--workers"
-        && workers == "1"
+        && workers_of(workers).is_some()
 }
 
-/// The command that the words name, None exactly where they name none.
-pub fn read_words<'w>(words: &'w [String]) -> Option<Command<'w>>
-    ensures command { option_map job_in result ≡ command_of (map string_bytes words.now) }
-    ensures workers { IfSome result (λ c. workers_in c ≡ 1) }
-    ensures plan { IfSome result (λ c. plan_in c ≡ record { workers = 1; buckets = 1024; mem = 65536 }) }
+// The join that nine words name.
+fn read_join<'w>(words: &'w [String]) -> Option<Command<'w>>
+    requires { length words.now ≡ 9 }
+    ensures command { option_map task_in result ≡ command_of (map string_bytes words.now) }
+    ensures plan { IfSome result HasPlan }
+    ensures rows { IfSome result HasRows }
 {
-    if words.len() != 9 {
-        return None;
-    }
     let verb = words[0].as_str();
     let inner = words[1].as_str();
     let outer = words[2].as_str();
@@ -81,4 +90,58 @@ pub fn read_words<'w>(words: &'w [String]) -> Option<Command<'w>>
             mem: 65536,
         },
     }))
+}
+
+// What a word, `make`, and the three after it ask for.
+fn make_of<'w>(verb: &str, rows: &str, start: &str, workers: &str) -> Option<Command<'w>>
+    ensures command { option_map task_in result ≡ make_of verb.now rows.now start.now workers.now }
+    ensures plan { IfSome result HasPlan }
+    ensures rows { IfSome result HasRows }
+{
+    if verb != "make" {
+        return None;
+    }
+    let Some(rows) = number_of(rows, 1, 65_536) else {
+        return None;
+    };
+    let Some(start) = number_of(start, 0, u32::MAX) else {
+        return None;
+    };
+    let Some(workers) = workers_of(workers) else {
+        return None;
+    };
+    Some(Command::Make {
+        rows,
+        start,
+        workers,
+    })
+}
+
+// What four words ask for.
+fn read_make<'w>(words: &'w [String]) -> Option<Command<'w>>
+    requires { length words.now ≡ 4 }
+    ensures command { option_map task_in result ≡ command_of (map string_bytes words.now) }
+    ensures plan { IfSome result HasPlan }
+    ensures rows { IfSome result HasRows }
+{
+    let verb = words[0].as_str();
+    let rows = words[1].as_str();
+    let start = words[2].as_str();
+    let workers = words[3].as_str();
+    make_of(verb, rows, start, workers)
+}
+
+/// The command that the words name, None exactly where they name none.
+pub fn read_words<'w>(words: &'w [String]) -> Option<Command<'w>>
+    ensures command { option_map task_in result ≡ command_of (map string_bytes words.now) }
+    ensures plan { IfSome result HasPlan }
+    ensures rows { IfSome result HasRows }
+{
+    if words.len() == 9 {
+        read_join(words)
+    } else if words.len() == 4 {
+        read_make(words)
+    } else {
+        None
+    }
 }

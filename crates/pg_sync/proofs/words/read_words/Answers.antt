@@ -1,23 +1,10 @@
-use Rattle.std.proofs.Common.{◌∙◌, List, ℕ, sym, map, length, string_bytes, arith}
+use Rattle.std.proofs.Common.{◌∙◌, List, ℕ, sym, map, string_bytes}
 use Rattle.std.proofs.lemmas.List.{length-map}
-use Rattle.pg_sync.proofs.WordFacts.{nine, command_of-other, command_of-none, command_of-some, not_nine}
+use Rattle.pg_sync.proofs.WordFacts.{command_of-other}
 use Rattle.pg_sync.proofs.words.read_words.Goals as goal
 
-pub returns-then-words-ne9-clause-command : goal.returns-then-words-ne9-clause-command
-returns-then-words-ne9-clause-command c =
+pub returns-else-words-eq4-clause-command : goal.returns-else-words-eq4-clause-command
+returns-else-words-eq4-clause-command c =
     let texts : List (List ℕ) = map string_bytes c.args.words.now in
     let size = length-map c.args.words.now string_bytes in
-    sym (command_of-other texts (not_nine (length texts) (λ e. c.if-words-ne9.true (sym size ∙ e))))
-
-pub returns-then-not-is_join-clause-command : goal.returns-then-not-is_join-clause-command
-returns-then-not-is_join-clause-command c =
-    let whole = nine c.args.words.now c.index-words-0.result c.index-words-1.result c.index-words-2.result c.index-words-3.result c.index-words-4.result c.index-words-5.result c.index-words-6.result c.index-words-7.result c.index-words-8.result (omega arith) (omega arith) c.index-words-0.is c.index-words-1.is c.index-words-2.is c.index-words-3.is c.index-words-4.is c.index-words-5.is c.index-words-6.is c.index-words-7.is c.index-words-8.is in
-    let test = rw (c.as_str-verb.ensures.value, c.as_str-inner.ensures.value, c.as_str-outer.ensures.value, c.as_str-first.ensures.value, c.as_str-second.ensures.value, c.as_str-third.ensures.value, c.as_str-workers.ensures.value) at c.is_join.ensures in
-    rw whole (command_of-none (string_bytes c.index-words-0.result) (string_bytes c.index-words-1.result) (string_bytes c.index-words-2.result) (string_bytes c.index-words-3.result) (string_bytes c.index-words-4.result) (string_bytes c.index-words-5.result) (string_bytes c.index-words-6.result) (string_bytes c.index-words-7.result) (string_bytes c.index-words-8.result) c.is_join.result test c.if-not-is_join.true)
-
-pub returns-clause-command : goal.returns-clause-command
-returns-clause-command c =
-    let whole = nine c.args.words.now c.index-words-0.result c.index-words-1.result c.index-words-2.result c.index-words-3.result c.index-words-4.result c.index-words-5.result c.index-words-6.result c.index-words-7.result c.index-words-8.result (omega arith) (omega arith) c.index-words-0.is c.index-words-1.is c.index-words-2.is c.index-words-3.is c.index-words-4.is c.index-words-5.is c.index-words-6.is c.index-words-7.is c.index-words-8.is in
-    let test = rw (c.as_str-verb.ensures.value, c.as_str-inner.ensures.value, c.as_str-outer.ensures.value, c.as_str-first.ensures.value, c.as_str-second.ensures.value, c.as_str-third.ensures.value, c.as_str-workers.ensures.value) at c.is_join.ensures in
-    rw (whole, c.as_str-inner.ensures.value, c.as_str-outer.ensures.value, c.as_str-inner_key.ensures.value, c.as_str-outer_key.ensures.value)
-    (command_of-some (string_bytes c.index-words-0.result) (string_bytes c.index-words-1.result) (string_bytes c.index-words-2.result) (string_bytes c.index-words-3.result) (string_bytes c.index-words-4.result) (string_bytes c.index-words-5.result) (string_bytes c.index-words-6.result) (string_bytes c.index-words-7.result) (string_bytes c.index-words-8.result) c.is_join.result test c.if-not-is_join.false)
+    sym (command_of-other texts (λ e. c.if-words-eq9.false (sym size ∙ e)) (λ e. c.if-words-eq4.false (sym size ∙ e)))

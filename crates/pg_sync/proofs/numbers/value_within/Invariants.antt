@@ -1,0 +1,9 @@
+use Rattle.std.proofs.Common.{◌≡◌, ◌≤◌, take}
+use Rattle.pg_sync.specs.Numbers.{value_of}
+use Rattle.pg_sync.proofs.numbers.value_within.Given as goal
+
+abbrev pub invariant-digits : goal.invariant-digits
+invariant-digits l = record {
+  is : l.value ≡ value_of (take l.digit-index l.digits);
+  few : l.value ≤ l.high;
+}
