@@ -6,6 +6,8 @@ ghost use Rattle.two_words.specs.declared.Turn.{Turn};
 ghost use Rattle.two_words.specs.declared.Progress.{Progress};
 
 mod runs;
+#[cfg(test)]
+mod tests;
 
 pub use runs::{half_turn, take_turn, two_turns};
 use wait_core::{ClientOp, Party};
