@@ -107,7 +107,7 @@ module _ (z : Size) (words : List ℕ) (homes : Homes) (seats : List Stance) (lo
 
     -- those who are taken leave the list, of whom one who wants the lock will answer
     detached : (after : Homes) (i x : ℕ) (w : Stance) (m : ℕ) (found : List Waiter) → m < z.locks → i ≡ state_at m → x ≡ woken_word (taken_from found) (kept_from found) (get_or words i 0) → v.hand ≡ hand_of m found
-        → w.own ≡ v.own → w.due ≡ v.due → ((p : ℕ) → listed p after (set seats id w) + times p found ≡ listed p homes seats + times p (kept_from found)) → (some : Bool) → has_locker (taken_from found) ≡ some
+        → w.own ≡ v.own → w.due ≡ v.due → ((p : ℕ) → listed p after (set seats id w) + times p found ≡ listed p homes seats + times p (kept_from found)) → (locker : Bool) → has_locker (taken_from found) ≡ locker
         → ReleaseOkIsOwed m (get_or (set words i x) (state_at m) 0) after (set seats id w)
     detached after i x w m found inside at_state becomes hand own due lists false none clear =
         let set_now : has_flag release_ok (get_or (set words i x) (state_at m) 0) ≡ 1 =

@@ -12,7 +12,7 @@ use Rattle.proc_table.specs.declared.Mode.{Mode}
 use Rattle.proc_table.specs.declared.Mode.TheVariants.{Shared, Exclusive}
 use Rattle.lw_core.specs.declared.step.GuardOp.TheVariants as guard
 use Rattle.lw_core.specs.declared.step.LwStep.{LwStep}
-use Rattle.lw_core.specs.declared.step.LwStep.TheVariants.{Grant, Refuse, Sub, Guard, Lock, Unlock, Flag, Wake, Post, Down, SetReleaseOk}
+use Rattle.lw_core.specs.declared.step.LwStep.TheVariants as kind
 use Rattle.lw_core.specs.declared.step.WordOp.{WordOp}
 use Rattle.lw_core.specs.declared.view.View.{View}
 use Rattle.lw_core.specs.declared.view.Size.{Size}
@@ -31,31 +31,32 @@ use Rattle.lw_core.proofs.Turning.{hand_follows}
 use Rattle.lw_core.proofs.Holders.{grant_below}
 use Rattle.lw_core.proofs.Touches.{on_exchange}
 use Rattle.lw_core.proofs.Seats.{own_inside}
-use Rattle.lw_core.proofs.RuleKeeps.{rule_step, tells, sem_small, rule_draw, rule_split, rule_join}
+use Rattle.lw_core.proofs.RuleKeeps as rule_keeps
+use Rattle.lw_core.proofs.RuleKeeps.{rule_step, sem_small, rule_draw, rule_split, rule_join}
 
 -- what is known of the word found, where the table's function of it is to be the machine's
 abbrev pub Bounds : LwStep → View → ℕ → Type 0
-Bounds (Grant l m w) v n = n < 2 ^ 32
-Bounds (Sub l b) v n = (n < 2 ^ 32) × (grant_held (mode_in l v) ≤ n)
-Bounds (Post q b) v n = n < 2 ^ 32
-Bounds Down v n = (1 ≤ n) × (n < 2 ^ 32)
+Bounds (kind.Grant l m w) v n = n < 2 ^ 32
+Bounds (kind.Sub l b) v n = (n < 2 ^ 32) × (grant_held (mode_in l v) ≤ n)
+Bounds (kind.Post q b) v n = n < 2 ^ 32
+Bounds kind.Down v n = (1 ≤ n) × (n < 2 ^ 32)
 Bounds k v n = n < 2 ^ 64
 
 -- where the list goes home it is the one that the seat has out; else no slot is read
 homes_same : (k : LwStep) (v : View) (n : ℕ) (found : List Waiter) (homes : List (maybe.Option Waiters)) (c : List (ℕ × Waiters)) → HasSlot k v c → homes_after homes (carried k v) (act_of k n found) ≡ homes_after homes c (act_of k n found)
-homes_same (Lock l b) v n found homes d h = on_exchange (has_flag locked n) 0 (λ (c : Bool). let a : Act Waiters = cond c (takes l (as_waiters found)) keeps in homes_after homes (carried (Lock l b) v) a ≡ homes_after homes d a) (λ _. refl) (λ _. refl)
-homes_same (Unlock l clears) v n found homes c h = ap (λ (x : List (ℕ × Waiters)). homes_after homes x (act_of (Unlock l clears) n found)) (sym h)
-homes_same (Wake l w to) v n found homes c h = ap (λ (x : List (ℕ × Waiters)). homes_after homes x (act_of (Wake l w to) n found)) (sym h)
+homes_same (kind.Lock l b) v n found homes d h = on_exchange (has_flag locked n) 0 (λ (c : Bool). let a : Act Waiters = cond c (takes l (as_waiters found)) keeps in homes_after homes (carried (kind.Lock l b) v) a ≡ homes_after homes d a) (λ _. refl) (λ _. refl)
+homes_same (kind.Unlock l clears) v n found homes c h = ap (λ (x : List (ℕ × Waiters)). homes_after homes x (act_of (kind.Unlock l clears) n found)) (sym h)
+homes_same (kind.Wake l w to) v n found homes c h = ap (λ (x : List (ℕ × Waiters)). homes_after homes x (act_of (kind.Wake l w to) n found)) (sym h)
 homes_same k v n found homes c h = refl
 
 -- a list that is taken was at home
 valid : (k : LwStep) (n : ℕ) (homes : List (maybe.Option Waiters)) (c : List (ℕ × Waiters)) → (takes_list k n ≡ true → (list : Waiters) × (get_elem? homes (lock_number k) ≡ maybe.some (maybe.some list))) → Valid homes c (act_of k n (home_list homes (lock_number k)))
-valid (Lock l b) n homes c h = taken (eqb (has_flag locked n) 0) h
+valid (kind.Lock l b) n homes c h = taken (eqb (has_flag locked n) 0) h
   where
     taken : (b : Bool) → (b ≡ true → (list : Waiters) × (get_elem? homes l ≡ maybe.some (maybe.some list))) → Valid homes c (cond b (takes l (as_waiters (home_list homes l))) keeps)
     taken true h = let there = h refl in there.1 ∙ ap (λ (o : maybe.Option (maybe.Option Waiters)). maybe.some (maybe.some (as_waiters (home_of o)))) (sym there.1)
     taken false h = tt
-valid (Wake l w to) n homes c h = either_act (eqb n w)
+valid (kind.Wake l w to) n homes c h = either_act (eqb n w)
   where
     either_act : (b : Bool) → Valid homes c (cond b table.gives keeps)
     either_act true = tt
@@ -73,15 +74,15 @@ module _ (lawful : ℕ → List ℕ → Type 0) (z : Size) where
 
   bounds : (s : LwState) (r : Rule lawful z s) (id : ℕ) (v : View) → get_elem? s.views id ≡ maybe.some v → (k : LwStep) → IsInRange z k → (v.own ≡ None → ⊥) → Allowed lawful k v
       → let n = get_or s.words (word_of z (number_of v.own) k) 0 in n < 2 ^ 64 → Bounds k v n
-  bounds s r id v at (Grant l m w) inside numbered ok small = (r.counts l inside.0).fits
-  bounds s r id v at (Sub l b) inside numbered ok small = ((r.counts l inside.0).fits, enough s r id l v at inside.0 (mode_in l v) refl)
-  bounds s r id v at (Post q b) inside numbered ok small = sem_small lawful z s r id v at q inside.1
-  bounds s r id v at Down inside numbered ok small = (tells lawful z s r id v at Down inside numbered ok, sem_small lawful z s r id v at (number_of v.own) (own_below s r id v at v.own refl numbered))
+  bounds s r id v at (kind.Grant l m w) inside numbered ok small = (r.counts l inside.0).fits
+  bounds s r id v at (kind.Sub l b) inside numbered ok small = ((r.counts l inside.0).fits, enough s r id l v at inside.0 (mode_in l v) refl)
+  bounds s r id v at (kind.Post q b) inside numbered ok small = sem_small lawful z s r id v at q inside.1
+  bounds s r id v at kind.Down inside numbered ok small = (rule_keeps.by_kind lawful z s r id v at kind.Down inside numbered ok, sem_small lawful z s r id v at (number_of v.own) (own_below s r id v at v.own refl numbered))
   bounds s r id v at k inside numbered ok small = small
 
   -- the list that a step takes is at home
   at_home : (s : LwState) (r : Rule lawful z s) (own : ℕ) (k : LwStep) → IsInRange z k → takes_list k (get_or s.words (word_of z own k) 0) ≡ true → (list : Waiters) × (get_elem? s.homes (lock_number k) ≡ maybe.some (maybe.some list))
-  at_home s r own (Lock l b) inside taken = (r.lists l inside.0).at_home (eqb-true _ _ taken)
+  at_home s r own (kind.Lock l b) inside taken = (r.lists l inside.0).at_home (eqb-true _ _ taken)
   at_home s r own k inside taken = absurd (cc)
 
   -- the step k, where the table's function f of the word is the machine's
@@ -94,7 +95,7 @@ module _ (lawful : ℕ → List ℕ → Type 0) (z : Size) where
         valid k n s.homes me.1 (at_home s r own k inside),
         subst (λ (x : ℕ). Rule lawful z (stepped s i x id me.1 view (act_of k n found))) (sym (agrees n (bounds s r id me.0 at k inside numbered ok small)))
             (subst (λ (x : List (maybe.Option Waiters)). Rule lawful z record { words = set s.words i (becomes k me.0 n); homes = x; views = set s.views id view }) (homes_same k me.0 n found s.homes me.1 slot) (rule_step lawful z s r id me.0 at k inside numbered ok)),
-        (found, refl, refl, tells lawful z s r id me.0 at k inside numbered ok, hand_follows lawful z me.0 (r.places id (seating_of me.0) (at_seen seating_of s.views id me.0 (seating_of me.0) at refl)).place k n found ok),
+        (found, refl, refl, rule_keeps.by_kind lawful z s r id me.0 at k inside numbered ok, hand_follows lawful z me.0 (r.places id (seating_of me.0) (at_seen seating_of s.views id me.0 (seating_of me.0) at refl)).place k n found ok),
       )
 
   -- seat 0 looks at the number that it may draw
@@ -132,20 +133,20 @@ subtracts : (n k : ℕ) → n < 2 ^ 32 → k ≤ n → (n + (2 ^ 64 - k)) % 2 ^ 
 subtracts n k small below = omega arith
 
 -- the table's operation does to the word what the machine says
-operates : (k : LwStep) (v : View) (n : ℕ) → Bounds k v n → gives (op_of k (held_for k v)) n ≡ becomes k v n
-operates (Grant l m w) v n small = on_exchange n w (λ (b : Bool). either b ((w + grant_of m) % 2 ^ 64) n ≡ cond b (w + grant_of m) n) (λ hit. sum_fits w m (omega arith)) (λ miss. refl)
-operates (Refuse l m w) v n h = on_exchange n w (λ (b : Bool). either b w n ≡ n) (λ hit. sym hit) (λ miss. refl)
-operates (Sub l b) v n h = subtracts n (grant_held (mode_in l v)) h.0 h.1
-operates (Lock l b) v n h = or_locked n
-operates (Unlock l true) v n h = and_locked_waiters n h
-operates (Unlock l false) v n h = and_locked n h
-operates (Flag l) v n h = or_waiters n
-operates (Wake l w to) v n h = on_exchange n w (λ (b : Bool). either b to n ≡ cond b to n) (λ hit. refl) (λ miss. refl)
-operates (Post q b) v n h = omega arith
-operates Down v n h = subtracts n 1 h.1 h.0
-operates (SetReleaseOk l) v n h = or_ok n
-operates (Guard l k guard.Load) v n h = refl
-operates k v n h = refl
+by_kind : (k : LwStep) (v : View) (n : ℕ) → Bounds k v n → gives (op_of k (held_for k v)) n ≡ becomes k v n
+by_kind (kind.Grant l m w) v n small = on_exchange n w (λ (b : Bool). either b ((w + grant_of m) % 2 ^ 64) n ≡ cond b (w + grant_of m) n) (λ hit. sum_fits w m (omega arith)) (λ miss. refl)
+by_kind (kind.Refuse l m w) v n h = on_exchange n w (λ (b : Bool). either b w n ≡ n) (λ hit. sym hit) (λ miss. refl)
+by_kind (kind.Sub l b) v n h = subtracts n (grant_held (mode_in l v)) h.0 h.1
+by_kind (kind.Lock l b) v n h = or_locked n
+by_kind (kind.Unlock l true) v n h = and_locked_waiters n h
+by_kind (kind.Unlock l false) v n h = and_locked n h
+by_kind (kind.Flag l) v n h = or_waiters n
+by_kind (kind.Wake l w to) v n h = on_exchange n w (λ (b : Bool). either b to n ≡ cond b to n) (λ hit. refl) (λ miss. refl)
+by_kind (kind.Post q b) v n h = omega arith
+by_kind kind.Down v n h = subtracts n 1 h.1 h.0
+by_kind (kind.SetReleaseOk l) v n h = or_ok n
+by_kind (kind.Guard l k guard.Load) v n h = refl
+by_kind k v n h = refl
 
 -- a step of a seat, at a table whose key is its size
 pub owes : (lawful : ℕ → List ℕ → Type 0) (key z : Size) (k : LwStep) (me : Sat) (slots id own word : ℕ) (held : Option Mode) (o : WordOp) → key ≡ z → me.0.own ≡ Some own → held ≡ held_for k me.0 → IsInRange z k → Allowed lawful k me.0 → HasSlot k me.0 me.1
@@ -154,7 +155,7 @@ owes lawful key z k me slots id own word held o keyed mine has inside ok slot at
     subst (λ (x : Size). Owes lawful x slots id me word (gives o) k) (sym keyed)
     (subst (λ (i : ℕ). Owes lawful z slots id me i (gives o) k) (ap (λ (x : Option ℕ). word_of z (number_of x) k) mine ∙ sym at)
     (allows lawful z slots id me k (gives o) inside (λ none. absurd (cc)) ok slot
-    (λ n b. ap (λ (x : WordOp). gives x n) is ∙ (ap (λ (x : Option Mode). gives (op_of k x) n) has ∙ operates k me.0 n b))))
+    (λ n b. ap (λ (x : WordOp). gives x n) is ∙ (ap (λ (x : Option Mode). gives (op_of k x) n) has ∙ by_kind k me.0 n b))))
 
 -- the same, of one arm's operation, where the play names the table's size
 pub owes_as : (lawful : ℕ → List ℕ → Type 0) (z y : Size) (slots id : ℕ) (me : Sat) (word : ℕ) (o arm : WordOp) (k : LwStep) → y ≡ z → o ≡ arm → Owes lawful z slots id me word (gives o) k

@@ -5,7 +5,7 @@ use lib.ListN.{get_elem?}
 use lib.Seq.{set-get_or}
 use Rattle.proc_table.specs.declared.Mode.{Mode}
 use Rattle.lw_core.specs.declared.step.LwStep.{LwStep}
-use Rattle.lw_core.specs.declared.step.LwStep.TheVariants.{Load, Grant, Refuse, Sub, Peek, Guard, Lock, Unlock, Flag, Wake, Post, SetReleaseOk}
+use Rattle.lw_core.specs.declared.step.LwStep.TheVariants as kind
 use Rattle.lw_core.specs.declared.view.Frame.TheVariants.{Trying, Detaching}
 use Rattle.lw_core.specs.declared.view.View.{View}
 use Rattle.lw_core.specs.declared.view.Size.{Size}
@@ -62,38 +62,38 @@ module _ (lawful : ℕ → List ℕ → Type 0) (z : Size) (s : LwState) (r : Ru
         (for_same _ _ (unseen (mode_in l) s.views id v w at mode) (CountsHolders x) (counts_flagged (map (mode_in l) s.views) (get_or s.words (state_at l) 0) x part small (r.counts l below)))
 
     -- the lock that the step is on
-    here : (k : LwStep) → lock_of k ≡ Some (lock_number k) → lock_number k < z.locks → (v.own ≡ None → ⊥) → Allowed lawful k v → let n = get_or s.words (word_of z (number_of v.own) k) 0 in
+    by_kind : (k : LwStep) → lock_of k ≡ Some (lock_number k) → lock_number k < z.locks → (v.own ≡ None → ⊥) → Allowed lawful k v → let n = get_or s.words (word_of z (number_of v.own) k) 0 in
         CountsHolders (get_or (set s.words (word_of z (number_of v.own) k) (becomes k v n)) (state_at (lock_number k)) 0) (map (mode_in (lock_number k)) (set s.views id (next k v n (home_list s.homes (lock_number k)))))
-    here (Load l b) on below numbered ok = read l _ below refl
-    here (Grant l m w) on below numbered ok = let n : ℕ = get_or s.words (state_at l) 0 in let k : LwStep = Grant l m w in let now = places.tries lawful z s r id v at l w m ok.0 in
+    by_kind (kind.Load l b) on below numbered ok = read l _ below refl
+    by_kind (kind.Grant l m w) on below numbered ok = let n : ℕ = get_or s.words (state_at l) 0 in let k : LwStep = kind.Grant l m w in let now = places.tries lawful z s r id v at l w m ok.0 in
         on_exchange n w (λ (b : Bool). CountsHolders (get_or (set s.words (state_at l) (cond b (w + grant_of m) n)) (state_at l) 0) (map (mode_in l) (set s.views id (cond b (gripped v k l n (on_grant v.surplus (outer v.place)) (held m) (v.grants + 1)) (moved v k n (Trying l m n ∷ outer v.place))))))
         (λ hit. other l (w + grant_of m) (Some m) _ below (ap mode_of_hold (hold_here v k l n (on_grant v.surplus (outer v.place)) (held m) (v.grants + 1) (inside_holds l below)))
         (subst (λ (x : ℕ). CountsHolders (x + grant_of m) (set (map (mode_in l) s.views) id (Some m))) hit
         (counts_granted (map (mode_in l) s.views) id n m (at_seen (mode_in l) s.views id v None at now.0) (subst (λ (x : ℕ). is_free m x ≡ true) (sym hit) ok.1) (few_holders l) (r.counts l below))))
         (λ miss. read l _ below refl)
-    here (Refuse l m w) on below numbered ok = read l _ below refl
-    here (Sub l b) on below numbered ok = let n : ℕ = get_or s.words (state_at l) 0 in let k : LwStep = Sub l b in let is = some_mode (mode_in l v) (begun_release b l v (places.mine lawful z s r id v at).place ok.0).1 in
+    by_kind (kind.Refuse l m w) on below numbered ok = read l _ below refl
+    by_kind (kind.Sub l b) on below numbered ok = let n : ℕ = get_or s.words (state_at l) 0 in let k : LwStep = kind.Sub l b in let is = some_mode (mode_in l v) (begun_release b l v (places.mine lawful z s r id v at).place ok.0).1 in
         other l (n - grant_held (mode_in l v)) None _ below (ap mode_of_hold (hold_here v k l n (let_go b l (n - grant_held (mode_in l v)) (releasing b v.place)) not_held v.grants (inside_holds l below)))
         (subst (λ (x : Option Mode). CountsHolders (n - grant_held x) (set (map (mode_in l) s.views) id None)) (sym is.1) (counts_released (map (mode_in l) s.views) id n is.0 (at_seen (mode_in l) s.views id v (Some is.0) at is.1) (r.counts l below)))
-    here (Peek l b) on below numbered ok = read l _ below refl
-    here (Guard l k o) on below numbered ok = let n : ℕ = get_or s.words (guard_at l k) 0 in let x : ℕ = guard_becomes o n in same l (set s.words (guard_at l k) x) _ below (get_or-set_other s.words (guard_at l k) (state_at l) x 0 (λ e. omega arith))
-        (ap mode_of_hold (hold_here v (Guard l k o) l n v.place (guard_hold o (hold_in l v) k n) v.grants (inside_holds l below)))
-    here (Lock l b) on below numbered ok = flags l _ _ below refl (part_set 28 _ (omega arith)) (small_set 28 _ (omega arith) (r.counts l below).fits)
-    here (Unlock l c) on below numbered ok = flags l _ _ below refl (part_unlocked c _) (small_unlocked c _ (r.counts l below).fits)
-    here (Flag l) on below numbered ok = flags l _ _ below refl (part_set 30 _ (omega arith)) (small_set 30 _ (omega arith) (r.counts l below).fits)
-    here (Wake l w to) on below numbered ok = let n : ℕ = get_or s.words (state_at l) 0 in
-        on_exchange n w (λ (b : Bool). CountsHolders (get_or (set s.words (state_at l) (cond b to n)) (state_at l) 0) (map (mode_in l) (set s.views id (moved v (Wake l w to) n (detached b n v.place)))))
+    by_kind (kind.Peek l b) on below numbered ok = read l _ below refl
+    by_kind (kind.Guard l k o) on below numbered ok = let n : ℕ = get_or s.words (guard_at l k) 0 in let x : ℕ = guard_becomes o n in same l (set s.words (guard_at l k) x) _ below (get_or-set_other s.words (guard_at l k) (state_at l) x 0 (λ e. omega arith))
+        (ap mode_of_hold (hold_here v (kind.Guard l k o) l n v.place (guard_hold o (hold_in l v) k n) v.grants (inside_holds l below)))
+    by_kind (kind.Lock l b) on below numbered ok = flags l _ _ below refl (part_set 28 _ (omega arith)) (small_set 28 _ (omega arith) (r.counts l below).fits)
+    by_kind (kind.Unlock l c) on below numbered ok = flags l _ _ below refl (part_unlocked c _) (small_unlocked c _ (r.counts l below).fits)
+    by_kind (kind.Flag l) on below numbered ok = flags l _ _ below refl (part_set 30 _ (omega arith)) (small_set 30 _ (omega arith) (r.counts l below).fits)
+    by_kind (kind.Wake l w to) on below numbered ok = let n : ℕ = get_or s.words (state_at l) 0 in
+        on_exchange n w (λ (b : Bool). CountsHolders (get_or (set s.words (state_at l) (cond b to n)) (state_at l) 0) (map (mode_in l) (set s.views id (moved v (kind.Wake l w to) n (detached b n v.place)))))
         (λ hit. woken v.place hit ok)
         (λ miss. read l _ below refl)
       where
-        woken : (p : Place) → get_or s.words (state_at l) 0 ≡ w → MayDetach l w to p → CountsHolders (get_or (set s.words (state_at l) to) (state_at l) 0) (map (mode_in l) (set s.views id (moved v (Wake l w to) (get_or s.words (state_at l) 0) (detached true (get_or s.words (state_at l) 0) v.place))))
+        woken : (p : Place) → get_or s.words (state_at l) 0 ≡ w → MayDetach l w to p → CountsHolders (get_or (set s.words (state_at l) to) (state_at l) 0) (map (mode_in l) (set s.views id (moved v (kind.Wake l w to) (get_or s.words (state_at l) 0) (detached true (get_or s.words (state_at l) 0) v.place))))
         woken (Detaching k updated found word ∷ p) hit d = flags l to _ below refl
             (ap lock_part d.2 ∙ (part_woken (taken_from found) (kept_from found) w ∙ ap lock_part (sym hit)))
             (subst (λ (x : ℕ). x < 2 ^ 32) (sym d.2) (small_woken (taken_from found) (kept_from found) w (subst (λ (x : ℕ). x < 2 ^ 32) hit (r.counts l below).fits)))
         woken p hit d = absurd d
-    here (SetReleaseOk l) on below numbered ok = flags l _ _ below refl (part_set 29 _ (omega arith)) (small_set 29 _ (omega arith) (r.counts l below).fits)
-    here (Post q b) on below numbered ok = absurd (cc)
-    here k on below numbered ok = let i : ℕ = word_of z (number_of v.own) k in same (lock_number k) (set s.words i _) _ below (get_or-set_other s.words i (state_at (lock_number k)) _ 0 (λ e. omega arith)) refl
+    by_kind (kind.SetReleaseOk l) on below numbered ok = flags l _ _ below refl (part_set 29 _ (omega arith)) (small_set 29 _ (omega arith) (r.counts l below).fits)
+    by_kind (kind.Post q b) on below numbered ok = absurd (cc)
+    by_kind k on below numbered ok = let i : ℕ = word_of z (number_of v.own) k in same (lock_number k) (set s.words i _) _ below (get_or-set_other s.words i (state_at (lock_number k)) _ 0 (λ e. omega arith)) refl
 
     pub counts_step : (k : LwStep) → IsInRange z k → (v.own ≡ None → ⊥) → Allowed lawful k v → EachCountsHolders z (after z s id v k)
     counts_step k inside numbered ok l below =
@@ -101,7 +101,7 @@ module _ (lawful : ℕ → List ℕ → Type 0) (z : Size) (s : LwState) (r : Ru
         on_lock k l (CountsHolders (get_or (set s.words i (becomes k v n)) (state_at l) 0) (map (mode_in l) (set s.views id w)))
         (λ on. let same : lock_number k ≡ l = ap number_of on in
         subst (λ (j : ℕ). CountsHolders (get_or (set s.words i (becomes k v n)) (state_at j) 0) (map (mode_in j) (set s.views id w))) same
-        (here k (on ∙ ap Some (sym same)) (subst (λ (j : ℕ). j < z.locks) (sym same) below) numbered ok))
+        (by_kind k (on ∙ ap Some (sym same)) (subst (λ (j : ℕ). j < z.locks) (sym same) below) numbered ok))
         (λ off. frame (mode_in l) CountsHolders s.words i (becomes k v n) (state_at l) s.views id v w at (word_apart lawful z (number_of v.own) k v ok l below off (state_at l) (omega arith) (omega arith)) (ap mode_of_hold (hold_else k v n (home_list s.homes (lock_number k)) l off)) (r.counts l below))
 
     pub counts_draw : EachCountsHolders z (drawn s id v)

@@ -9,7 +9,7 @@ use Rattle.proc_table.specs.declared.Mode.{Mode}
 use Rattle.proc_table.specs.declared.Mode.TheVariants.{Shared, Exclusive}
 use Rattle.lw_core.specs.declared.step.GuardOp.TheVariants as guard
 use Rattle.lw_core.specs.declared.step.LwStep.{LwStep}
-use Rattle.lw_core.specs.declared.step.LwStep.TheVariants.{Guard}
+use Rattle.lw_core.specs.declared.step.LwStep.TheVariants as kind
 use Rattle.lw_core.specs.declared.view.View.{View}
 use Rattle.lw_core.specs.declared.view.Size.{Size}
 use Rattle.seat_roster.specs.Totals.{total}
@@ -73,8 +73,8 @@ module _ (lawful : ℕ → List ℕ → Type 0) (z : Size) where
       own = number_of e.view.own
 
       by_kind : (k : LwStep) → IsInRange z k → Allowed lawful k e.view → guarded (set s.words (word_of z own k) (becomes k e.view (get_or s.words (word_of z own k) 0))) l ≡ guarded s.words l
-      by_kind (Guard i j guard.Load) inside ok = ap (λ (x : List ℕ). guarded x l) (set-get_or s.words (guard_at i j) 0)
-      by_kind (Guard i j o) inside ok = let few = ok.0 in let x : ℕ = guard_becomes o (get_or s.words (guard_at i j) 0) in dite (ℕ_discrete l i)
+      by_kind (kind.Guard i j guard.Load) inside ok = ap (λ (x : List ℕ). guarded x l) (set-get_or s.words (guard_at i j) 0)
+      by_kind (kind.Guard i j o) inside ok = let few = ok.0 in let x : ℕ = guard_becomes o (get_or s.words (guard_at i j) 0) in dite (ℕ_discrete l i)
           (λ is. absurd (nobody (ap (λ (y : ℕ). mode_in y e.view) is ∙ ok.2)))
           (λ ne. guarded_same (set s.words (guard_at i j) x) s.words l (λ y few. get_or-set_other s.words (guard_at i j) (guard_at l y) x 0 (λ same. ne (omega arith))))
       by_kind k inside ok = guarded_same (set s.words (word_of z own k) _) s.words l (λ j few. get_or-set_other s.words (word_of z own k) (guard_at l j) _ 0 (λ e. omega arith))

@@ -15,7 +15,7 @@ use Rattle.seat_roster.proofs.Stretches.{seen, seen_more, at_seen, unseen}
 use Rattle.lw_core.specs.declared.step.Call.{Call}
 use Rattle.lw_core.specs.declared.step.Call.TheVariants as call
 use Rattle.lw_core.specs.declared.step.LwStep.{LwStep}
-use Rattle.lw_core.specs.declared.step.LwStep.TheVariants.{Load, Grant, Refuse, Sub, Peek, Guard, Lock, Unlock, Flag, WaitStore, WaitLoad, Wake, Post, Look, Down, SetReleaseOk, VarLoad, VarStore}
+use Rattle.lw_core.specs.declared.step.LwStep.TheVariants as kind
 use Rattle.lw_core.specs.declared.view.Frame.TheVariants.{Trying, TakingList, Spinning, Waking, Detaching, Downing}
 use Rattle.lw_core.specs.declared.view.Hold.{Hold}
 use Rattle.lw_core.specs.declared.view.Size.{Size}
@@ -139,56 +139,56 @@ module _ (lawful : ℕ → List ℕ → Type 0) (z : Size) (s : LwState) (r : Ru
   held_here : (i : ℕ) (h : Hold) → i ≡ l → (get_or (set v.holds i h) l not_held).mode ≡ h.mode
   held_here i h is = ap (λ (j : ℕ). (get_or (set v.holds j h) l not_held).mode) is ∙ ap mode_of_hold (get_or-set_same v.holds l h not_held (inside_holds lawful z s r id v at l below))
 
-  outcome : (k : LwStep) → IsInRange z k → Allowed lawful k v → lock_part (word_by k) ≡ 0 → mode_in l (view_by k) ≡ None → Does k
-  outcome (Load i None) inside ok free none = goes refl (loaded_goes l v.holds v.surplus i (get_or s.words (state_at i) 0) v.place ok fits)
-  outcome (Load i (Some (call.Try j m))) inside ok free none = goes refl (begun_goes l v.place _ ok.1 refl)
-  outcome (Load i (Some (call.Acquire j m))) inside ok free none = goes refl (begun_goes l v.place _ ok.1 refl)
-  outcome (Load i (Some (call.AcquireOrWait j m))) inside ok free none = goes refl (begun_goes l v.place _ ok.1 refl)
-  outcome (Load i (Some c)) inside ok free none = absurd ok
-  outcome (Grant i m w) inside ok free none = let n : ℕ = get_or s.words (state_at i) 0 in let k : LwStep = Grant i m w in let at_top = top_is v.place (Trying i m w) ok.0 in let now = places.tries lawful z s r id v at i w m ok.0 in
+  by_kind : (k : LwStep) → IsInRange z k → Allowed lawful k v → lock_part (word_by k) ≡ 0 → mode_in l (view_by k) ≡ None → Does k
+  by_kind (kind.Load i None) inside ok free none = goes refl (loaded_goes l v.holds v.surplus i (get_or s.words (state_at i) 0) v.place ok fits)
+  by_kind (kind.Load i (Some (call.Try j m))) inside ok free none = goes refl (begun_goes l v.place _ ok.1 refl)
+  by_kind (kind.Load i (Some (call.Acquire j m))) inside ok free none = goes refl (begun_goes l v.place _ ok.1 refl)
+  by_kind (kind.Load i (Some (call.AcquireOrWait j m))) inside ok free none = goes refl (begun_goes l v.place _ ok.1 refl)
+  by_kind (kind.Load i (Some c)) inside ok free none = absurd ok
+  by_kind (kind.Grant i m w) inside ok free none = let n : ℕ = get_or s.words (state_at i) 0 in let k : LwStep = kind.Grant i m w in let at_top = top_is v.place (Trying i m w) ok.0 in let now = places.tries lawful z s r id v at i w m ok.0 in
       on_exchange n w (λ (b : Bool). let u = cond b (gripped v k i n (on_grant v.surplus (outer v.place)) (held m) (v.grants + 1)) (moved v k n (Trying i m n ∷ outer v.place)) in mode_in l u ≡ None → Outcome l (word_by k) v u)
       (λ hit unheld_now. dite (ℕ_discrete i l)
       (λ is. absurd (let has = held_here i (held m) is in cc))
       (λ ne. goes (held_else i (held m) ne) (subst (λ (p : Place). Goes l p (on_grant v.surplus (outer v.place))) (sym at_top) (granted_goes l i w v.surplus m (outer v.place) ne now.2))))
       (λ miss unheld_now. goes refl (subst (λ (p : Place). Goes l p (Trying i m n ∷ outer v.place)) (sym at_top) (retried_goes l i w n v.surplus m (outer v.place) now.2)))
       none
-  outcome (Refuse i m w) inside ok free none = let n : ℕ = get_or s.words (state_at i) 0 in let k : LwStep = Refuse i m w in let at_top = top_is v.place (Trying i m w) ok.0 in let now = places.tries lawful z s r id v at i w m ok.0 in
+  by_kind (kind.Refuse i m w) inside ok free none = let n : ℕ = get_or s.words (state_at i) 0 in let k : LwStep = kind.Refuse i m w in let at_top = top_is v.place (Trying i m w) ok.0 in let now = places.tries lawful z s r id v at i w m ok.0 in
       on_exchange n w (λ (b : Bool). Outcome l (word_by k) v (moved v k n (cond b (on_refusal (outer v.place)) (Trying i m n ∷ outer v.place))))
       (λ hit. dite (ℕ_discrete i l)
       (λ is. let word = stored_here i n is in let clear = free_part m w (ap lock_part (sym hit ∙ sym word) ∙ free) in let blocked = ok.1 in absurd (cc))
       (λ ne. goes refl (subst (λ (p : Place). Goes l p (on_refusal (outer v.place))) (sym at_top) (refused_goes l i w v.surplus m (outer v.place) ne now.2))))
       (λ miss. goes refl (subst (λ (p : Place). Goes l p (Trying i m n ∷ outer v.place)) (sym at_top) (retried_goes l i w n v.surplus m (outer v.place) now.2)))
-  outcome (Sub i b) inside ok free none = let n : ℕ = get_or s.words (state_at i) 0 in let x : ℕ = n - grant_held (mode_in i v) in dite (ℕ_discrete i l)
-      (λ is. let word = stored_here i x is in released b l x (word_by (Sub i b)) v _ (releasing b v.place) (ap (λ (j : ℕ). let_go b j x (releasing b v.place)) is) word (ap lock_part (sym word) ∙ free))
+  by_kind (kind.Sub i b) inside ok free none = let n : ℕ = get_or s.words (state_at i) 0 in let x : ℕ = n - grant_held (mode_in i v) in dite (ℕ_discrete i l)
+      (λ is. let word = stored_here i x is in released b l x (word_by (kind.Sub i b)) v _ (releasing b v.place) (ap (λ (j : ℕ). let_go b j x (releasing b v.place)) is) word (ap lock_part (sym word) ∙ free))
       (λ ne. goes (held_else i not_held ne) (let_go_goes l b i x v (begun_release b i v fits ok.0).0 ok.0))
-  outcome (Peek i (Some (call.WaitForVar j old))) inside ok free none = goes refl (peeked_goes l v.surplus j old (get_or s.words (state_at i) 0) v.place ok.1)
-  outcome (Peek i None) inside ok free none = let n : ℕ = get_or s.words (state_at i) 0 in goes refl (looked_on_goes l v.holds v.surplus i n v.place ok fits
+  by_kind (kind.Peek i (Some (call.WaitForVar j old))) inside ok free none = goes refl (peeked_goes l v.surplus j old (get_or s.words (state_at i) 0) v.place ok.1)
+  by_kind (kind.Peek i None) inside ok free none = let n : ℕ = get_or s.words (state_at i) 0 in goes refl (looked_on_goes l v.holds v.surplus i n v.place ok fits
       (λ blocked is. let word = stored_here i n is in let clear = free_part Shared n (ap lock_part (sym word) ∙ free) in cc))
-  outcome (Peek i (Some c)) inside ok free none = absurd ok
-  outcome (Guard i k o) inside ok free none = let h : Hold = guard_hold o (hold_in i v) k (get_or s.words (guard_at i k) 0) in
+  by_kind (kind.Peek i (Some c)) inside ok free none = absurd ok
+  by_kind (kind.Guard i k o) inside ok free none = let h : Hold = guard_hold o (hold_in i v) k (get_or s.words (guard_at i k) 0) in
       goes (dite (ℕ_discrete i l) (λ is. held_here i h is ∙ ap (λ (j : ℕ). mode_in j v) is) (λ ne. held_else i h ne)) (begun_goes l v.place v.place ok.1 (ap committed_at ok.1))
-  outcome (Lock i b) inside ok free none = let now = taking_fits (lawful i) b i v fits ok in goes refl (taking_goes l (lawful i) b i v _ ok (by_place (taking b v.place) now.0 now.1))
+  by_kind (kind.Lock i b) inside ok free none = let now = taking_fits (lawful i) b i v fits ok in goes refl (taking_goes l (lawful i) b i v _ ok (by_place (taking b v.place) now.0 now.1))
     where
       by_place : (p : Place) → MayTake i p → PlaceFits v.holds v.surplus p → let clear = eqb (has_flag locked (get_or s.words (state_at i) 0)) 0 in Goes l p (cond clear (in_hand (home_list s.homes i) (outer p)) (Spinning i ∷ outer p))
       by_place (f ∷ p) may at_place = taken_goes l v.holds v.surplus i (home_list s.homes i) f p may at_place _
       by_place [] may at_place = absurd may
-  outcome (VarLoad i) inside ok free none = goes refl (compared_goes l v.holds v.surplus i (get_or s.words (var_at i) 0) v.place ok fits)
-  outcome (VarStore i x) inside ok free none = goes refl (published_goes l i x v.place ok)
-  outcome (Unlock i c) inside ok free none = goes refl (sent_goes l v.holds v.surplus i (number_of v.own) c v.place ok fits)
-  outcome (Flag i) inside ok free none = goes refl (flagged_goes l i v.place ok)
-  outcome (WaitStore q x) inside ok free none = goes refl (stored_goes l v.holds v.surplus q x v.own v.place ok fits)
-  outcome WaitLoad inside ok free none = goes refl (reread_goes l v.holds v.surplus _ v.place ok fits)
-  outcome (Wake i w to) inside ok free none = let n : ℕ = get_or s.words (state_at i) 0 in let k : LwStep = Wake i w to in
+  by_kind (kind.VarLoad i) inside ok free none = goes refl (compared_goes l v.holds v.surplus i (get_or s.words (var_at i) 0) v.place ok fits)
+  by_kind (kind.VarStore i x) inside ok free none = goes refl (published_goes l i x v.place ok)
+  by_kind (kind.Unlock i c) inside ok free none = goes refl (sent_goes l v.holds v.surplus i (number_of v.own) c v.place ok fits)
+  by_kind (kind.Flag i) inside ok free none = goes refl (flagged_goes l i v.place ok)
+  by_kind (kind.WaitStore q x) inside ok free none = goes refl (stored_goes l v.holds v.surplus q x v.own v.place ok fits)
+  by_kind kind.WaitLoad inside ok free none = goes refl (reread_goes l v.holds v.surplus _ v.place ok fits)
+  by_kind (kind.Wake i w to) inside ok free none = let n : ℕ = get_or s.words (state_at i) 0 in let k : LwStep = kind.Wake i w to in
       on_exchange n w (λ (b : Bool). Outcome l (get_or (set s.words (state_at i) (cond b to n)) (state_at l) 0) v (moved v k n (detached b n v.place)))
       (λ hit. dite (ℕ_discrete i l) (λ is. woken l i w to _ v _ v.place ok (stored_here i to is)) (λ ne. goes refl (detached_goes l v.holds v.surplus i w to n v.place ne ok fits)))
       (λ miss. goes refl (missed_goes l i w to n v.place ok))
-  outcome (Post q None) inside ok free none = goes refl (posted_goes l v.holds v.surplus q v.own v.place ok fits)
-  outcome (Post q (Some (call.Poke i))) inside ok free none = goes refl (begun_goes l v.place _ ok.1 (ap (λ (p : Place). committed_at (posted (surplus_posted p v.surplus) p)) ok.1))
-  outcome (Post q (Some c)) inside ok free none = absurd ok
-  outcome (Look b) inside ok free none = goes refl (looked_goes l b v.place ok _)
-  outcome Down inside ok free none = let at_top = top_is v.place Downing ok in
+  by_kind (kind.Post q None) inside ok free none = goes refl (posted_goes l v.holds v.surplus q v.own v.place ok fits)
+  by_kind (kind.Post q (Some (call.Poke i))) inside ok free none = goes refl (begun_goes l v.place _ ok.1 (ap (λ (p : Place). committed_at (posted (surplus_posted p v.surplus) p)) ok.1))
+  by_kind (kind.Post q (Some c)) inside ok free none = absurd ok
+  by_kind (kind.Look b) inside ok free none = goes refl (looked_goes l b v.place ok _)
+  by_kind kind.Down inside ok free none = let at_top = top_is v.place Downing ok in
       goes refl (subst (λ (p : Place). Goes l p (outer v.place)) (sym at_top) (down_goes l v.holds v.surplus (outer v.place) (subst (PlaceFits v.holds v.surplus) at_top fits)))
-  outcome (SetReleaseOk i) inside ok free none = goes refl (answered_goes l v.holds v.surplus i v.place ok fits none)
+  by_kind (kind.SetReleaseOk i) inside ok free none = goes refl (answered_goes l v.holds v.surplus i v.place ok fits none)
 
   -- THE STEP
   module _ (k : LwStep) (inside : IsInRange z k) (numbered : v.own ≡ None → ⊥) (ok : Allowed lawful k v) (b : Beside z (after z s id v k)) where
@@ -233,7 +233,7 @@ module _ (lawful : ℕ → List ℕ → Type 0) (z : Size) (s : LwState) (r : Ru
     attended : attends_at (view_by k).place ≡ Some l → Attends l now.views
     attended e = record { id = id; view = view_by k; at = view_there; attends = e }
 
-    -- each outcome keeps the part
+    -- each by_kind keeps the part
     kept : Outcome l (word_by k) v (view_by k) → FreeLockIsAnswered l (word_by k) now.homes now.views
     kept (goes mode (attends e)) free j p u there own asleep some = inr (attended e)
     kept (goes mode (passes unattended sleeps undue)) free j p u there own asleep some = carried_over s.homes now.homes s.views id v (view_by k) at l (get_or s.words (state_at l) 0) (word_by k) (λ e. sym (part_kept mode) ∙ e)
@@ -244,7 +244,7 @@ module _ (lawful : ℕ → List ℕ → Type 0) (z : Size) (s : LwState) (r : Ru
 
     stepped_free : FreeLockIsAnswered l (word_by k) now.homes now.views
     stepped_free free = let part = part_holds (map (mode_in l) now.views) id (word_by k) (mode_in l (view_by k)) (at_seen (mode_in l) now.views id (view_by k) (mode_in l (view_by k)) view_there refl) (b.counts l below) in
-        kept (outcome k inside ok free (unheld (mode_in l (view_by k)) (omega arith))) free
+        kept (by_kind k inside ok free (unheld (mode_in l (view_by k)) (omega arith))) free
 
 -- A MOVE. A seat is where it was, and has its number if it sleeps for the lock or answers for it
 stands : (homes : List (maybe.Option Waiters)) (views : List View) (id l word : ℕ) (v w : View) → get_elem? views id ≡ maybe.some v → w.place ≡ v.place

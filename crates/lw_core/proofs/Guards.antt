@@ -5,7 +5,7 @@ use lib.ListN.{get_elem?}
 use lib.Seq.{set-get_or}
 use Rattle.lw_core.specs.declared.step.GuardOp.TheVariants as guard
 use Rattle.lw_core.specs.declared.step.LwStep.{LwStep}
-use Rattle.lw_core.specs.declared.step.LwStep.TheVariants.{Grant, Sub, Guard, Post}
+use Rattle.lw_core.specs.declared.step.LwStep.TheVariants as kind
 use Rattle.lw_core.specs.declared.view.Hold.{Hold}
 use Rattle.lw_core.specs.declared.view.Frame.TheVariants.{Trying}
 use Rattle.lw_core.specs.declared.view.View.{View}
@@ -45,24 +45,24 @@ module _ (lawful : ℕ → List ℕ → Type 0) (z : Size) (s : LwState) (r : Ru
   counts_modes l below = subst (CountsHolders (get_or s.words (state_at l) 0)) (sym (map_twice mode_of_hold (hold_in l) s.views)) (r.counts l below)
 
   -- the lock that the step is on
-  here : (k : LwStep) → lock_of k ≡ Some (lock_number k) → lock_number k < z.locks → (v.own ≡ None → ⊥) → Allowed lawful k v → let n = get_or s.words (word_of z (number_of v.own) k) 0 in
+  by_kind : (k : LwStep) → lock_of k ≡ Some (lock_number k) → lock_number k < z.locks → (v.own ≡ None → ⊥) → Allowed lawful k v → let n = get_or s.words (word_of z (number_of v.own) k) 0 in
       GuardedIsLawful (lawful (lock_number k)) (guarded (set s.words (word_of z (number_of v.own) k) (becomes k v n)) (lock_number k)) (map (hold_in (lock_number k)) (set s.views id (next k v n (home_list s.homes (lock_number k)))))
-  here (Grant l m w) on below numbered ok = let n : ℕ = get_or s.words (state_at l) 0 in let k : LwStep = Grant l m w in let now = places.tries lawful z s r id v at l w m ok.0 in
+  by_kind (kind.Grant l m w) on below numbered ok = let n : ℕ = get_or s.words (state_at l) 0 in let k : LwStep = kind.Grant l m w in let now = places.tries lawful z s r id v at l w m ok.0 in
       on_exchange n w (λ (b : Bool). GuardedIsLawful (lawful l) (guarded (set s.words (state_at l) (cond b (w + grant_of m) n)) l) (map (hold_in l) (set s.views id (cond b (gripped v k l n (on_grant v.surplus (outer v.place)) (held m) (v.grants + 1)) (moved v k n (Trying l m n ∷ outer v.place))))))
       (λ hit. other l _ (guarded s.words l) (held m) _ (guarded_off s.words l (w + grant_of m) l) (hold_here v k l n (on_grant v.surplus (outer v.place)) (held m) (v.grants + 1) (inside_holds l below))
       (guarded_granted (lawful l) (guarded s.words l) (map (hold_in l) s.views) (r.guarded l below) id (hold_in l v) m (seen_hold l) now.0))
       (λ miss. same l _ _ below (guarded_off s.words l n l) refl)
-  here (Sub l b) on below numbered ok = let n : ℕ = get_or s.words (state_at l) 0 in other l _ (guarded s.words l) not_held _ (guarded_off s.words l _ l) (hold_here v (Sub l b) l n (let_go b l (n - grant_held (mode_in l v)) (releasing b v.place)) not_held v.grants (inside_holds l below))
+  by_kind (kind.Sub l b) on below numbered ok = let n : ℕ = get_or s.words (state_at l) 0 in other l _ (guarded s.words l) not_held _ (guarded_off s.words l _ l) (hold_here v (kind.Sub l b) l n (let_go b l (n - grant_held (mode_in l v)) (releasing b v.place)) not_held v.grants (inside_holds l below))
       (guarded_released (lawful l) (guarded s.words l) (map (hold_in l) s.views) (r.guarded l below) id (hold_in l v) refl (seen_hold l) ok.1)
-  here (Guard l k guard.Load) on below numbered ok = let n : ℕ = get_or s.words (guard_at l k) 0 in let is = some_mode (mode_in l v) ok.2 in
-      other l (set s.words (guard_at l k) n) (guarded s.words l) (learnt (hold_in l v) k n) _ (ap (λ (x : List ℕ). guarded x l) (set-get_or s.words (guard_at l k) 0)) (hold_here v (Guard l k guard.Load) l n v.place (learnt (hold_in l v) k n) v.grants (inside_holds l below))
+  by_kind (kind.Guard l k guard.Load) on below numbered ok = let n : ℕ = get_or s.words (guard_at l k) 0 in let is = some_mode (mode_in l v) ok.2 in
+      other l (set s.words (guard_at l k) n) (guarded s.words l) (learnt (hold_in l v) k n) _ (ap (λ (x : List ℕ). guarded x l) (set-get_or s.words (guard_at l k) 0)) (hold_here v (kind.Guard l k guard.Load) l n v.place (learnt (hold_in l v) k n) v.grants (inside_holds l below))
       (subst (λ (x : ℕ). GuardedIsLawful (lawful l) (guarded s.words l) (set (map (hold_in l) s.views) id (learnt (hold_in l v) k x))) (guarded_at s.words l k ok.0)
       (guarded_learnt (lawful l) (guarded s.words l) (map (hold_in l) s.views) (r.guarded l below) id k (hold_in l v) is.0 ok.0 (seen_hold l) is.1))
-  here (Guard l k o) on below numbered ok = let n : ℕ = get_or s.words (guard_at l k) 0 in let x : ℕ = guard_becomes o n in let wide = r.sized.long in
-      other l (set s.words (guard_at l k) x) (set (guarded s.words l) k x) (written (hold_in l v) k x) _ (guarded_set s.words l k x ok.0 (omega arith)) (hold_here v (Guard l k o) l n v.place (written (hold_in l v) k x) v.grants (inside_holds l below))
+  by_kind (kind.Guard l k o) on below numbered ok = let n : ℕ = get_or s.words (guard_at l k) 0 in let x : ℕ = guard_becomes o n in let wide = r.sized.long in
+      other l (set s.words (guard_at l k) x) (set (guarded s.words l) k x) (written (hold_in l v) k x) _ (guarded_set s.words l k x ok.0 (omega arith)) (hold_here v (kind.Guard l k o) l n v.place (written (hold_in l v) k x) v.grants (inside_holds l below))
       (guarded_written (lawful l) (guarded s.words l) (map (hold_in l) s.views) (r.guarded l below) id k x _ (hold_in l v) ok.0 refl (seen_hold l) ok.2 (counts_modes l below))
-  here (Post q b) on below numbered ok = absurd (cc)
-  here k on below numbered ok = let i : ℕ = word_of z (number_of v.own) k in let x : ℕ = becomes k v (get_or s.words i 0) in
+  by_kind (kind.Post q b) on below numbered ok = absurd (cc)
+  by_kind k on below numbered ok = let i : ℕ = word_of z (number_of v.own) k in let x : ℕ = becomes k v (get_or s.words i 0) in
       same (lock_number k) (set s.words i x) _ below (guarded_same (set s.words i x) s.words (lock_number k) (λ j few. get_or-set_other s.words i (guard_at (lock_number k) j) x 0 (λ e. omega arith))) refl
 
   pub guards_step : (k : LwStep) → IsInRange z k → (v.own ≡ None → ⊥) → Allowed lawful k v → EachGuardedIsLawful lawful z (after z s id v k)
@@ -71,13 +71,13 @@ module _ (lawful : ℕ → List ℕ → Type 0) (z : Size) (s : LwState) (r : Ru
       on_lock k l (GuardedIsLawful (lawful l) (guarded (set s.words i (becomes k v n)) l) (map (hold_in l) (set s.views id w)))
       (λ on. let here_is : lock_number k ≡ l = ap number_of on in
       subst (λ (j : ℕ). GuardedIsLawful (lawful j) (guarded (set s.words i (becomes k v n)) j) (map (hold_in j) (set s.views id w))) here_is
-      (here k (on ∙ ap Some (sym here_is)) (subst (λ (j : ℕ). j < z.locks) (sym here_is) below) numbered ok))
+      (by_kind k (on ∙ ap Some (sym here_is)) (subst (λ (j : ℕ). j < z.locks) (sym here_is) below) numbered ok))
       (λ off. same l (set s.words i (becomes k v n)) w below
       (guarded_same (set s.words i (becomes k v n)) s.words l (λ j few. get_or-set_other s.words i (guard_at l j) (becomes k v n) 0 (word_apart lawful z (number_of v.own) k v ok l below off (guard_at l j) (omega arith) (omega arith))))
       (hold_else k v n (home_list s.homes (lock_number k)) l off))
 
   -- what a read tells
-  pub reads_step : (l k : ℕ) → l < z.locks → Allowed lawful (Guard l k guard.Load) v → Reads (lawful l) (hold_in l v) k (get_or s.words (guard_at l k) 0)
+  pub reads_step : (l k : ℕ) → l < z.locks → Allowed lawful (kind.Guard l k guard.Load) v → Reads (lawful l) (hold_in l v) k (get_or s.words (guard_at l k) 0)
   reads_step l k below ok = let is = some_mode (mode_in l v) ok.2 in subst (Reads (lawful l) (hold_in l v) k) (guarded_at s.words l k ok.0)
       (reads (lawful l) (guarded s.words l) (map (hold_in l) s.views) (r.guarded l below) id k _ (hold_in l v) is.0 ok.0 refl (seen_hold l) is.1 (counts_modes l below))
 

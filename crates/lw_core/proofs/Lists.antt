@@ -30,15 +30,15 @@ module _ (f : Waiter → ℕ) where
       by_test true r = omega arith
       by_test false r = omega arith
 
-  pub total_parted : (some : Bool) (ws : List Waiter) → total f (taken_after some ws) + total f (kept_after some ws) ≡ total f ws
-  total_parted some [] = refl
-  total_parted some (w ∷ ws) = let next : Bool = cond (same_want w.want Shared) true some in by_want (same_want w.want Exclusive) some next (total_parted some ws) (total_parted next ws)
+  pub total_parted : (took_shared : Bool) (ws : List Waiter) → total f (taken_after took_shared ws) + total f (kept_after took_shared ws) ≡ total f ws
+  total_parted took_shared [] = refl
+  total_parted took_shared (w ∷ ws) = let next : Bool = cond (same_want w.want Shared) true took_shared in by_want (same_want w.want Exclusive) took_shared next (total_parted took_shared ws) (total_parted next ws)
     where
-      by_want : (exclusive some next : Bool) → total f (taken_after some ws) + total f (kept_after some ws) ≡ total f ws → total f (taken_after next ws) + total f (kept_after next ws) ≡ total f ws
-          → total f (cond exclusive (cond some (taken_after some ws) (w ∷ [])) (w ∷ taken_after next ws)) + total f (cond exclusive (cond some (w ∷ kept_after some ws) ws) (kept_after next ws)) ≡ total f (w ∷ ws)
+      by_want : (exclusive took_shared next : Bool) → total f (taken_after took_shared ws) + total f (kept_after took_shared ws) ≡ total f ws → total f (taken_after next ws) + total f (kept_after next ws) ≡ total f ws
+          → total f (cond exclusive (cond took_shared (taken_after took_shared ws) (w ∷ [])) (w ∷ taken_after next ws)) + total f (cond exclusive (cond took_shared (w ∷ kept_after took_shared ws) ws) (kept_after next ws)) ≡ total f (w ∷ ws)
       by_want true true next r s = omega arith
       by_want true false next r s = omega arith
-      by_want false some next r s = omega arith
+      by_want false took_shared next r s = omega arith
 
   pub total_headed : (ws : List Waiter) → total f (until_free_from ws) + total f (lockers_from ws) ≡ total f ws
   total_headed [] = refl
@@ -199,23 +199,23 @@ without_first p (w ∷ ws) h = by_test (eqb w.proc p) (without_first p ws h.1)
     by_test true r = r
     by_test false r = ((λ locks. no_without p ws (h.0 locks)), r)
 
-no_kept : (some : Bool) (ws : List Waiter) → HasNoUntilFree ws → HasNoUntilFree (kept_after some ws)
-no_kept some [] h = tt
-no_kept some (w ∷ ws) h = let next : Bool = cond (same_want w.want Shared) true some in by_want (same_want w.want Exclusive) some next (no_kept some ws h.1) (no_kept next ws h.1)
+no_kept : (took_shared : Bool) (ws : List Waiter) → HasNoUntilFree ws → HasNoUntilFree (kept_after took_shared ws)
+no_kept took_shared [] h = tt
+no_kept took_shared (w ∷ ws) h = let next : Bool = cond (same_want w.want Shared) true took_shared in by_want (same_want w.want Exclusive) took_shared next (no_kept took_shared ws h.1) (no_kept next ws h.1)
   where
-    by_want : (exclusive some next : Bool) → HasNoUntilFree (kept_after some ws) → HasNoUntilFree (kept_after next ws) → HasNoUntilFree (cond exclusive (cond some (w ∷ kept_after some ws) ws) (kept_after next ws))
+    by_want : (exclusive took_shared next : Bool) → HasNoUntilFree (kept_after took_shared ws) → HasNoUntilFree (kept_after next ws) → HasNoUntilFree (cond exclusive (cond took_shared (w ∷ kept_after took_shared ws) ws) (kept_after next ws))
     by_want true true next r s = (h.0, r)
     by_want true false next r s = h.1
-    by_want false some next r s = s
+    by_want false took_shared next r s = s
 
-kept_after_first : (some : Bool) (ws : List Waiter) → IsUntilFreeFirst ws → IsUntilFreeFirst (kept_after some ws)
-kept_after_first some [] h = tt
-kept_after_first some (w ∷ ws) h = let next : Bool = cond (same_want w.want Shared) true some in by_want (same_want w.want Exclusive) some next (kept_after_first some ws h.1) (kept_after_first next ws h.1)
+kept_after_first : (took_shared : Bool) (ws : List Waiter) → IsUntilFreeFirst ws → IsUntilFreeFirst (kept_after took_shared ws)
+kept_after_first took_shared [] h = tt
+kept_after_first took_shared (w ∷ ws) h = let next : Bool = cond (same_want w.want Shared) true took_shared in by_want (same_want w.want Exclusive) took_shared next (kept_after_first took_shared ws h.1) (kept_after_first next ws h.1)
   where
-    by_want : (exclusive some next : Bool) → IsUntilFreeFirst (kept_after some ws) → IsUntilFreeFirst (kept_after next ws) → IsUntilFreeFirst (cond exclusive (cond some (w ∷ kept_after some ws) ws) (kept_after next ws))
+    by_want : (exclusive took_shared next : Bool) → IsUntilFreeFirst (kept_after took_shared ws) → IsUntilFreeFirst (kept_after next ws) → IsUntilFreeFirst (cond exclusive (cond took_shared (w ∷ kept_after took_shared ws) ws) (kept_after next ws))
     by_want true true next r s = ((λ locks. no_kept true ws (h.0 locks)), r)
     by_want true false next r s = h.1
-    by_want false some next r s = s
+    by_want false took_shared next r s = s
 
 pub kept_first : (ws : List Waiter) → IsUntilFreeFirst ws → IsUntilFreeFirst (kept_from ws)
 kept_first ws h = kept_after_first false ws h
@@ -226,14 +226,14 @@ locks_there Exclusive e = refl
 locks_there Shared e = absurd (cc)
 locks_there UntilFree e = absurd (cc)
 
-kept_after_locks : (some : Bool) (ws : List Waiter) → IsUntilFreeFirst ws → HasNoUntilFree (kept_after some ws)
-kept_after_locks some [] h = tt
-kept_after_locks some (w ∷ ws) h = let next : Bool = cond (same_want w.want Shared) true some in by_want (same_want w.want Exclusive) some next refl (kept_after_locks some ws h.1) (kept_after_locks next ws h.1)
+kept_after_locks : (took_shared : Bool) (ws : List Waiter) → IsUntilFreeFirst ws → HasNoUntilFree (kept_after took_shared ws)
+kept_after_locks took_shared [] h = tt
+kept_after_locks took_shared (w ∷ ws) h = let next : Bool = cond (same_want w.want Shared) true took_shared in by_want (same_want w.want Exclusive) took_shared next refl (kept_after_locks took_shared ws h.1) (kept_after_locks next ws h.1)
   where
-    by_want : (exclusive some next : Bool) → same_want w.want Exclusive ≡ exclusive → HasNoUntilFree (kept_after some ws) → HasNoUntilFree (kept_after next ws) → HasNoUntilFree (cond exclusive (cond some (w ∷ kept_after some ws) ws) (kept_after next ws))
+    by_want : (exclusive took_shared next : Bool) → same_want w.want Exclusive ≡ exclusive → HasNoUntilFree (kept_after took_shared ws) → HasNoUntilFree (kept_after next ws) → HasNoUntilFree (cond exclusive (cond took_shared (w ∷ kept_after took_shared ws) ws) (kept_after next ws))
     by_want true true next e r s = (locks_there w.want e, r)
     by_want true false next e r s = h.0 (locks_there w.want e)
-    by_want false some next e r s = s
+    by_want false took_shared next e r s = s
 
 pub kept_locks : (ws : List Waiter) → IsUntilFreeFirst ws → HasNoUntilFree (kept_from ws)
 kept_locks ws h = kept_after_locks false ws h

@@ -6,7 +6,7 @@ use Rattle.proc_table.specs.declared.Mode.{Mode}
 use Rattle.lw_core.specs.declared.step.Call.{Call}
 use Rattle.lw_core.specs.declared.step.Call.TheVariants as call
 use Rattle.lw_core.specs.declared.step.LwStep.{LwStep}
-use Rattle.lw_core.specs.declared.step.LwStep.TheVariants.{Load, Grant, Refuse, Sub, Peek, Guard, Lock, VarLoad, VarStore, Unlock, Flag, WaitStore, WaitLoad, Wake, Post, Look, Down, SetReleaseOk}
+use Rattle.lw_core.specs.declared.step.LwStep.TheVariants as kind
 use Rattle.lw_core.specs.declared.view.Frame.TheVariants.{Trying, Spinning, Downing, Releasing}
 use Rattle.lw_core.specs.declared.view.Hold.{Hold}
 use Rattle.lw_core.specs.declared.view.View.{View}
@@ -101,39 +101,39 @@ module _ (lawful : ℕ → List ℕ → Type 0) (z : Size) (s : LwState) (r : Ru
     takes l found [] ok fits b = absurd ok
     takes l found (f ∷ p) ok fits b = taken_fits v.holds v.surplus l f found p ok fits b
 
-    fits : (k : LwStep) → IsInRange z k → Allowed lawful k v → SeatFits (seating_of (next k v (get_or s.words (word_of z (number_of v.own) k) 0) (home_list s.homes (lock_number k))))
-    fits (Load l None) inside ok = moves _ (loaded_fits v.holds v.surplus l (get_or s.words (state_at l) 0) v.place (r.counts l inside.0).fits ok mine.place)
-    fits (Load l (Some c)) inside ok = moves _ (begins l (get_or s.words (state_at l) 0) c (r.counts l inside.0).fits ok)
-    fits (Grant l m w) inside ok = let n : ℕ = get_or s.words (state_at l) 0 in let k : LwStep = Grant l m w in let now = tries l w m ok.0 in
+    by_kind : (k : LwStep) → IsInRange z k → Allowed lawful k v → SeatFits (seating_of (next k v (get_or s.words (word_of z (number_of v.own) k) 0) (home_list s.homes (lock_number k))))
+    by_kind (kind.Load l None) inside ok = moves _ (loaded_fits v.holds v.surplus l (get_or s.words (state_at l) 0) v.place (r.counts l inside.0).fits ok mine.place)
+    by_kind (kind.Load l (Some c)) inside ok = moves _ (begins l (get_or s.words (state_at l) 0) c (r.counts l inside.0).fits ok)
+    by_kind (kind.Grant l m w) inside ok = let n : ℕ = get_or s.words (state_at l) 0 in let k : LwStep = kind.Grant l m w in let now = tries l w m ok.0 in
         on_exchange n w (λ (b : Bool). SeatFits (seating_of (cond b (gripped v k l n (on_grant v.surplus (outer v.place)) (held m) (v.grants + 1)) (moved v k n (Trying l m n ∷ outer v.place)))))
         (λ _. grips _ l (held m) (granted_fits v.holds v.surplus l m (outer v.place) (let long = mine.long in let most = r.sized.locks in let below = inside.0 in omega arith) now.2))
         (λ _. moves _ (now.0, (r.counts l inside.0).fits, now.2))
-    fits (Refuse l m w) inside ok = let n : ℕ = get_or s.words (state_at l) 0 in let now = tries l w m ok.0 in
-        on_exchange n w (λ (b : Bool). SeatFits (seating_of (moved v (Refuse l m w) n (cond b (on_refusal (outer v.place)) (Trying l m n ∷ outer v.place)))))
+    by_kind (kind.Refuse l m w) inside ok = let n : ℕ = get_or s.words (state_at l) 0 in let now = tries l w m ok.0 in
+        on_exchange n w (λ (b : Bool). SeatFits (seating_of (moved v (kind.Refuse l m w) n (cond b (on_refusal (outer v.place)) (Trying l m n ∷ outer v.place)))))
         (λ _. moves _ (refused_fits v.holds v.surplus l m (outer v.place) now.0 now.2))
         (λ _. moves _ (now.0, (r.counts l inside.0).fits, now.2))
-    fits (Sub l b) inside ok = grips _ l not_held (let_go_fits b (set v.holds l not_held) v.surplus l (get_or s.words (state_at l) 0 - grant_held (mode_in l v)) (releasing b v.place) (begun_release b l v mine.place ok.0).0 (nothing_left b l ok.0))
-    fits (Peek l (Some (call.WaitForVar i old))) inside ok = moves _ (peeked_fits v.holds v.surplus i old _ v.place (subst (λ (x : ℕ). mode_in x v ≡ None) (sym ok.0) ok.2) ok.1 (nothing_back ok.1))
-    fits (Peek l None) inside ok = moves _ (looked_on_fits v.holds v.surplus l _ v.place ok mine.place)
-    fits (Peek l (Some c)) inside ok = absurd ok
-    fits (Guard l k o) inside ok = grips v.place l (guard_hold o (hold_in l v) k (get_or s.words (guard_at l k) 0)) (idle_fits _ v.surplus v.place ok.1 (nothing_back ok.1))
-    fits (Lock l b) inside ok = let now = taking_fits (lawful l) b l v mine.place ok in moves _ (takes l (home_list s.homes l) (taking b v.place) now.0 now.1 (eqb (has_flag locked (get_or s.words (state_at l) 0)) 0))
-    fits (VarLoad l) inside ok = moves _ (compared_fits v.holds v.surplus l _ v.place ok mine.place)
-    fits (VarStore l x) inside ok = moves _ (published_fits v.holds v.surplus l x v.place ok mine.place)
-    fits (Unlock l c) inside ok = moves _ (sent_fits v.holds v.surplus l (number_of v.own) c v.place ok mine.place)
-    fits (Flag l) inside ok = moves _ (flagged_fits v.holds v.surplus l v.place ok mine.place)
-    fits (WaitStore q x) inside ok = moves _ (stored_fits v.holds v.surplus q x v.own v.place ok mine.place)
-    fits WaitLoad inside ok = stands _ v.holds _ mine.long (reread_fits v.holds v.surplus _ v.place ok mine.place)
-    fits (Wake l w to) inside ok = moves _ (detached_fits v.holds v.surplus l w to (get_or s.words (state_at l) 0) v.place (r.counts l inside.0).fits ok mine.place (eqb (get_or s.words (state_at l) 0) w))
-    fits (Post q None) inside ok = stands _ v.holds _ mine.long (posted_fits v.holds v.surplus q v.own v.place ok mine.place)
-    fits (Post q (Some (call.Poke i))) inside ok = pokes_more i _ _ (subst (λ (p : Place). PlaceFits v.holds (surplus_posted p v.surplus) (posted (surplus_posted p v.surplus) p)) (sym ok.1) (nothing_back ok.1)) ok.2
-    fits (Post q (Some c)) inside ok = absurd ok
-    fits (Look b) inside ok = moves _ (looked_fits v.holds v.surplus b v.place ok mine.place _)
-    fits Down inside ok = moves _ (down_fits v.holds v.surplus (outer v.place) (subst (PlaceFits v.holds v.surplus) (top_is v.place Downing ok) mine.place))
-    fits (SetReleaseOk l) inside ok = moves _ (answered_fits v.holds v.surplus l v.place ok mine.place)
+    by_kind (kind.Sub l b) inside ok = grips _ l not_held (let_go_fits b (set v.holds l not_held) v.surplus l (get_or s.words (state_at l) 0 - grant_held (mode_in l v)) (releasing b v.place) (begun_release b l v mine.place ok.0).0 (nothing_left b l ok.0))
+    by_kind (kind.Peek l (Some (call.WaitForVar i old))) inside ok = moves _ (peeked_fits v.holds v.surplus i old _ v.place (subst (λ (x : ℕ). mode_in x v ≡ None) (sym ok.0) ok.2) ok.1 (nothing_back ok.1))
+    by_kind (kind.Peek l None) inside ok = moves _ (looked_on_fits v.holds v.surplus l _ v.place ok mine.place)
+    by_kind (kind.Peek l (Some c)) inside ok = absurd ok
+    by_kind (kind.Guard l k o) inside ok = grips v.place l (guard_hold o (hold_in l v) k (get_or s.words (guard_at l k) 0)) (idle_fits _ v.surplus v.place ok.1 (nothing_back ok.1))
+    by_kind (kind.Lock l b) inside ok = let now = taking_fits (lawful l) b l v mine.place ok in moves _ (takes l (home_list s.homes l) (taking b v.place) now.0 now.1 (eqb (has_flag locked (get_or s.words (state_at l) 0)) 0))
+    by_kind (kind.VarLoad l) inside ok = moves _ (compared_fits v.holds v.surplus l _ v.place ok mine.place)
+    by_kind (kind.VarStore l x) inside ok = moves _ (published_fits v.holds v.surplus l x v.place ok mine.place)
+    by_kind (kind.Unlock l c) inside ok = moves _ (sent_fits v.holds v.surplus l (number_of v.own) c v.place ok mine.place)
+    by_kind (kind.Flag l) inside ok = moves _ (flagged_fits v.holds v.surplus l v.place ok mine.place)
+    by_kind (kind.WaitStore q x) inside ok = moves _ (stored_fits v.holds v.surplus q x v.own v.place ok mine.place)
+    by_kind kind.WaitLoad inside ok = stands _ v.holds _ mine.long (reread_fits v.holds v.surplus _ v.place ok mine.place)
+    by_kind (kind.Wake l w to) inside ok = moves _ (detached_fits v.holds v.surplus l w to (get_or s.words (state_at l) 0) v.place (r.counts l inside.0).fits ok mine.place (eqb (get_or s.words (state_at l) 0) w))
+    by_kind (kind.Post q None) inside ok = stands _ v.holds _ mine.long (posted_fits v.holds v.surplus q v.own v.place ok mine.place)
+    by_kind (kind.Post q (Some (call.Poke i))) inside ok = pokes_more i _ _ (subst (λ (p : Place). PlaceFits v.holds (surplus_posted p v.surplus) (posted (surplus_posted p v.surplus) p)) (sym ok.1) (nothing_back ok.1)) ok.2
+    by_kind (kind.Post q (Some c)) inside ok = absurd ok
+    by_kind (kind.Look b) inside ok = moves _ (looked_fits v.holds v.surplus b v.place ok mine.place _)
+    by_kind kind.Down inside ok = moves _ (down_fits v.holds v.surplus (outer v.place) (subst (PlaceFits v.holds v.surplus) (top_is v.place Downing ok) mine.place))
+    by_kind (kind.SetReleaseOk l) inside ok = moves _ (answered_fits v.holds v.surplus l v.place ok mine.place)
 
     pub places_step : (k : LwStep) → IsInRange z k → Allowed lawful k v → PlacesFit (after z s id v k)
-    places_step k inside ok = goes (next k v (get_or s.words (word_of z (number_of v.own) k) 0) (home_list s.homes (lock_number k))) (fits k inside ok)
+    places_step k inside ok = goes (next k v (get_or s.words (word_of z (number_of v.own) k) 0) (home_list s.homes (lock_number k))) (by_kind k inside ok)
 
   pub places_draw : PlacesFit (drawn s id v)
   places_draw = subst SeatsFit (sym (unseen seating_of s.views id v (drew_one v) at refl)) r.places

@@ -5,7 +5,7 @@ use lib.ListN.{get_elem?}
 use Rattle.atomic_table.specs.Table.{keeps, takes, gives, homes_after, opening}
 use Rattle.proc_table.specs.declared.Mode.{Mode}
 use Rattle.lw_core.specs.declared.step.LwStep.{LwStep}
-use Rattle.lw_core.specs.declared.step.LwStep.TheVariants.{Load, Grant, Refuse, Sub, Peek, Guard, Lock, Unlock, Flag, WaitStore, WaitLoad, Wake, Post, Look, Down, SetReleaseOk, VarLoad, VarStore}
+use Rattle.lw_core.specs.declared.step.LwStep.TheVariants as kind
 use Rattle.lw_core.specs.declared.view.Frame.TheVariants.{Trying, Downing}
 use Rattle.lw_core.specs.declared.view.Hold.{Hold}
 use Rattle.lw_core.specs.declared.view.View.{View}
@@ -123,8 +123,8 @@ module _ (lawful : ℕ → List ℕ → Type 0) (z : Size) (s : LwState) (r : Ru
         }
 
     -- WHAT A STEP TELLS
-    granted : (l w n : ℕ) (m : Mode) (found : List Waiter) → l < z.locks → n ≡ w → hold_in l (next (Grant l m w) v n found) ≡ held m
-    granted l w n m found inside hit = let k : LwStep = Grant l m w in
+    granted : (l w n : ℕ) (m : Mode) (found : List Waiter) → l < z.locks → n ≡ w → hold_in l (next (kind.Grant l m w) v n found) ≡ held m
+    granted l w n m found inside hit = let k : LwStep = kind.Grant l m w in
         subst (λ (b : Bool). hold_in l (cond b (gripped v k l n (on_grant v.surplus (outer v.place)) (held m) (v.grants + 1)) (moved v k n (Trying l m n ∷ outer v.place))) ≡ held m) (sym (eq-eqb n w hit))
         (hold_here v k l n (on_grant v.surplus (outer v.place)) (held m) (v.grants + 1) (inside_holds lawful z s r id v at l inside))
 
@@ -145,27 +145,27 @@ module _ (lawful : ℕ → List ℕ → Type 0) (z : Size) (s : LwState) (r : Ru
     sem_there numbered ok = let own = numbered_as lawful z s r id v at numbered in down_there z s.words s.homes seats r.wakes id (number_of v.own) (stance_of v) there own (own_inside lawful z s r id v at (number_of v.own) own)
         (ap downing_at (top_is v.place Downing ok))
 
-    pub tells : (k : LwStep) → IsInRange z k → (v.own ≡ None → ⊥) → Allowed lawful k v → Tells lawful z k v (get_or s.words (word_of z (number_of v.own) k) 0) (home_list s.homes (lock_number k))
-    tells (Load l b) inside numbered ok = ((r.counts l inside.0).fits, places.nothing_back lawful z s r id v at)
-    tells (Grant l m w) inside numbered ok = ((r.counts l inside.0).fits, granted l w (get_or s.words (state_at l) 0) m (home_list s.homes l) inside.0)
-    tells (Refuse l m w) inside numbered ok = (r.counts l inside.0).fits
-    tells (Sub l b) inside numbered ok = let n : ℕ = get_or s.words (state_at l) 0 in
-        ((r.counts l inside.0).fits, hold_here v (Sub l b) l n (let_go b l (n - grant_held (mode_in l v)) (releasing b v.place)) not_held v.grants (inside_holds lawful z s r id v at l inside.0))
-    tells (Peek l b) inside numbered ok = ((r.counts l inside.0).fits, places.nothing_back lawful z s r id v at)
-    tells (Guard l k o) inside numbered ok = let n : ℕ = get_or s.words (guard_at l k) 0 in
-        (hold_here v (Guard l k o) l n v.place (guard_hold o (hold_in l v) k n) v.grants (inside_holds lawful z s r id v at l inside.0), writes_step lawful z s r id v at l k (guard_becomes o n) inside.0 ok.0, reads_step lawful z s r id v at l k inside.0 (ok.0, ok.1, guards_held (guard_writes o) (mode_in l v) ok.2))
-    tells (VarLoad l) inside numbered ok = tt
-    tells (VarStore l x) inside numbered ok = tt
-    tells (Lock l b) inside numbered ok = ((r.counts l inside.0).fits, tells_list l inside.0 numbered, places.nothing_back lawful z s r id v at)
-    tells (Unlock l c) inside numbered ok = (r.counts l inside.0).fits
-    tells (Flag l) inside numbered ok = (r.counts l inside.0).fits
-    tells (WaitStore q x) inside numbered ok = tt
-    tells WaitLoad inside numbered ok = surplus_small numbered
-    tells (Wake l w to) inside numbered ok = (r.counts l inside.0).fits
-    tells (Post q b) inside numbered ok = tt
-    tells (Look b) inside numbered ok = tt
-    tells Down inside numbered ok = sem_there numbered ok
-    tells (SetReleaseOk l) inside numbered ok = (r.counts l inside.0).fits
+    pub by_kind : (k : LwStep) → IsInRange z k → (v.own ≡ None → ⊥) → Allowed lawful k v → Tells lawful z k v (get_or s.words (word_of z (number_of v.own) k) 0) (home_list s.homes (lock_number k))
+    by_kind (kind.Load l b) inside numbered ok = ((r.counts l inside.0).fits, places.nothing_back lawful z s r id v at)
+    by_kind (kind.Grant l m w) inside numbered ok = ((r.counts l inside.0).fits, granted l w (get_or s.words (state_at l) 0) m (home_list s.homes l) inside.0)
+    by_kind (kind.Refuse l m w) inside numbered ok = (r.counts l inside.0).fits
+    by_kind (kind.Sub l b) inside numbered ok = let n : ℕ = get_or s.words (state_at l) 0 in
+        ((r.counts l inside.0).fits, hold_here v (kind.Sub l b) l n (let_go b l (n - grant_held (mode_in l v)) (releasing b v.place)) not_held v.grants (inside_holds lawful z s r id v at l inside.0))
+    by_kind (kind.Peek l b) inside numbered ok = ((r.counts l inside.0).fits, places.nothing_back lawful z s r id v at)
+    by_kind (kind.Guard l k o) inside numbered ok = let n : ℕ = get_or s.words (guard_at l k) 0 in
+        (hold_here v (kind.Guard l k o) l n v.place (guard_hold o (hold_in l v) k n) v.grants (inside_holds lawful z s r id v at l inside.0), writes_step lawful z s r id v at l k (guard_becomes o n) inside.0 ok.0, reads_step lawful z s r id v at l k inside.0 (ok.0, ok.1, guards_held (guard_writes o) (mode_in l v) ok.2))
+    by_kind (kind.VarLoad l) inside numbered ok = tt
+    by_kind (kind.VarStore l x) inside numbered ok = tt
+    by_kind (kind.Lock l b) inside numbered ok = ((r.counts l inside.0).fits, tells_list l inside.0 numbered, places.nothing_back lawful z s r id v at)
+    by_kind (kind.Unlock l c) inside numbered ok = (r.counts l inside.0).fits
+    by_kind (kind.Flag l) inside numbered ok = (r.counts l inside.0).fits
+    by_kind (kind.WaitStore q x) inside numbered ok = tt
+    by_kind kind.WaitLoad inside numbered ok = surplus_small numbered
+    by_kind (kind.Wake l w to) inside numbered ok = (r.counts l inside.0).fits
+    by_kind (kind.Post q b) inside numbered ok = tt
+    by_kind (kind.Look b) inside numbered ok = tt
+    by_kind kind.Down inside numbered ok = sem_there numbered ok
+    by_kind (kind.SetReleaseOk l) inside numbered ok = (r.counts l inside.0).fits
 
     -- THE MOVES
     pub rule_draw : v.own ≡ Some 0 → v.pending ≡ None → v.drawn + 1 < z.procs → Rule lawful z (drawn s id v)

@@ -12,7 +12,7 @@ use Rattle.seat_roster.specs.Roster.{Numbers}
 use Rattle.lw_core.specs.declared.step.Call.{Call}
 use Rattle.lw_core.specs.declared.step.Call.TheVariants as call
 use Rattle.lw_core.specs.declared.step.LwStep.{LwStep}
-use Rattle.lw_core.specs.declared.step.LwStep.TheVariants.{Grant, Sub, Guard, Lock, Unlock, Wake, Post}
+use Rattle.lw_core.specs.declared.step.LwStep.TheVariants as kind
 use Rattle.lw_core.specs.declared.view.Frame.TheVariants.{Trying, Appending, Removing, Detaching, Returning, Calling, Unhanding}
 use Rattle.lw_core.specs.declared.view.Hold.{Hold}
 use Rattle.lw_core.specs.declared.view.View.{View}
@@ -46,21 +46,21 @@ modes_stay (Some l) v = modes_kept v.holds l
 
 -- the modes of the view after a step
 modes_after : (k : LwStep) (v : View) (n : ℕ) (found : List Waiter) → map mode_of_hold (next k v n found).holds ≡ modes_then (lock_of k) (mode_then k (held_for k v) n) (map mode_of_hold v.holds)
-modes_after (Grant l m w) v n found = on_exchange n w
-    (λ (b : Bool). map mode_of_hold (cond b (gripped v (Grant l m w) l n (on_grant v.surplus (outer v.place)) (held m) (v.grants + 1)) (moved v (Grant l m w) n (Trying l m n ∷ outer v.place))).holds
+modes_after (kind.Grant l m w) v n found = on_exchange n w
+    (λ (b : Bool). map mode_of_hold (cond b (gripped v (kind.Grant l m w) l n (on_grant v.surplus (outer v.place)) (held m) (v.grants + 1)) (moved v (kind.Grant l m w) n (Trying l m n ∷ outer v.place))).holds
     ≡ set (map mode_of_hold v.holds) l (cond b (Some m) (mode_in l v)))
     (λ _. map-set mode_of_hold v.holds l (held m)) (λ _. modes_kept v.holds l)
-modes_after (Sub l b) v n found = map-set mode_of_hold v.holds l not_held
-modes_after (Guard l k o) v n found = map-set mode_of_hold v.holds l (guard_hold o (hold_in l v) k n)
-modes_after (Post q b) v n found = poked_keeps (λ (u : View). map mode_of_hold u.holds) (λ _ _. refl) b _
+modes_after (kind.Sub l b) v n found = map-set mode_of_hold v.holds l not_held
+modes_after (kind.Guard l k o) v n found = map-set mode_of_hold v.holds l (guard_hold o (hold_in l v) k n)
+modes_after (kind.Post q b) v n found = poked_keeps (λ (u : View). map mode_of_hold u.holds) (λ _ _. refl) b _
 modes_after k v n found = modes_stay (lock_of k) v
 
 -- the pokes of the view after a step
 pokes_after : (lawful : ℕ → List ℕ → Type 0) (k : LwStep) (v : View) (n : ℕ) (found : List Waiter) → Allowed lawful k v → (next k v n found).pokes ≡ v.pokes + pokes_by k
-pokes_after lawful (Grant l m w) v n found ok = either_way (λ (u : View). u.pokes) (eqb n w) _ _ (v.pokes + 0) (omega arith) (omega arith)
-pokes_after lawful (Post q None) v n found ok = omega arith
-pokes_after lawful (Post q (Some (call.Poke r))) v n found ok = refl
-pokes_after lawful (Post q (Some c)) v n found ok = absurd ok
+pokes_after lawful (kind.Grant l m w) v n found ok = either_way (λ (u : View). u.pokes) (eqb n w) _ _ (v.pokes + 0) (omega arith) (omega arith)
+pokes_after lawful (kind.Post q None) v n found ok = omega arith
+pokes_after lawful (kind.Post q (Some (call.Poke r))) v n found ok = refl
+pokes_after lawful (kind.Post q (Some c)) v n found ok = absurd ok
 pokes_after lawful k v n found ok = omega arith
 
 pub fresh_modes : (n : ℕ) → replicate n None ≡ map mode_of_hold (replicate n not_held)
@@ -114,7 +114,7 @@ seated_swapped s t number modes pokes slot l list h is at table me = let slots =
 
 module _ (lawful : ℕ → List ℕ → Type 0) where
   takes_empty : (k : LwStep) (v : View) (n : ℕ) → Allowed lawful k v → takes_list k n ≡ true → lock_in_hand (hand_at v.place) ≡ None
-  takes_empty (Lock l b) v n ok taken = begun b ok
+  takes_empty (kind.Lock l b) v n ok taken = begun b ok
     where
       begun : (b : Option Call) → BeginsTaking (lawful l) l b v → lock_in_hand (hand_at v.place) ≡ None
       begun (Some (call.UpdateVar k x)) e = ap (λ (p : Place). lock_in_hand (hand_at p)) e.1
@@ -124,7 +124,7 @@ module _ (lawful : ℕ → List ℕ → Type 0) where
   takes_empty k v n ok taken = absurd (cc)
 
   takes_lock : (k : LwStep) (n : ℕ) → takes_list k n ≡ true → lock_of k ≡ Some (lock_number k)
-  takes_lock (Lock l b) n taken = refl
+  takes_lock (kind.Lock l b) n taken = refl
   takes_lock k n taken = absurd (cc)
 
   carries_after : (k : LwStep) (v : View) (n : ℕ) (found : List Waiter) (c : List (ℕ × Waiters)) → Allowed lawful k v → Carries (hand_at v.place) c → HandFollows k v n found
@@ -162,8 +162,8 @@ module _ (lawful : ℕ → List ℕ → Type 0) where
   -- a step that may send the list in hand home
   seated_sending : (s t : Seat Waiters View) (number : ℕ) (modes : List (Option Mode)) (pokes l : ℕ) (k : LwStep) (n : ℕ) (found : List Waiter) → IsSending l k → IsSeated s number modes pokes → Allowed lawful k s.me.0 → t.table_id ≡ s.table_id
       → t.me.0 ≡ next k s.me.0 n found → t.me.1 ≡ carried_after s.me.1 (act_of k n found) → HandFollows k s.me.0 n found → IsSeated t number modes pokes
-  seated_sending s t number modes pokes l (Unlock j clears) n found sends h ok table view carried follows = seated_step s t number modes modes pokes pokes (Unlock j clears) n found h ok table view carried follows h.modes_are h.long h.pokes_are
-  seated_sending s t number modes pokes l (Wake j w to) n found sends h ok table view carried follows = seated_step s t number modes modes pokes pokes (Wake j w to) n found h ok table view carried follows h.modes_are h.long h.pokes_are
+  seated_sending s t number modes pokes l (kind.Unlock j clears) n found sends h ok table view carried follows = seated_step s t number modes modes pokes pokes (kind.Unlock j clears) n found h ok table view carried follows h.modes_are h.long h.pokes_are
+  seated_sending s t number modes pokes l (kind.Wake j w to) n found sends h ok table view carried follows = seated_step s t number modes modes pokes pokes (kind.Wake j w to) n found h ok table view carried follows h.modes_are h.long h.pokes_are
   seated_sending s t number modes pokes l k n found sends h ok table view carried follows = absurd sends
 
   sending_at : (l j own : ℕ) (clears : Bool) (p : Place) → j ≡ l → MaySendHome j clears own p → lock_in_hand (hand_at p) ≡ Some l
@@ -180,24 +180,24 @@ module _ (lawful : ℕ → List ℕ → Type 0) where
 
   -- before such a step the list is in hand, and after one that failed it is still
   sending_hand : (l : ℕ) (k : LwStep) (v : View) → IsSending l k → Allowed lawful k v → lock_in_hand (hand_at v.place) ≡ Some l
-  sending_hand l (Unlock j clears) v sends ok = sending_at l j (number_of v.own) clears v.place sends ok
-  sending_hand l (Wake j w to) v sends ok = detaching_at l j w to v.place sends ok
+  sending_hand l (kind.Unlock j clears) v sends ok = sending_at l j (number_of v.own) clears v.place sends ok
+  sending_hand l (kind.Wake j w to) v sends ok = detaching_at l j w to v.place sends ok
   sending_hand l k v sends ok = absurd sends
 
   failed_hand : (l : ℕ) (k : LwStep) (v : View) (n : ℕ) (found : List Waiter) → IsSending l k → Allowed lawful k v → exchanges k n ≡ false → HandFollows k v n found → lock_in_hand (hand_at (next k v n found).place) ≡ Some l
-  failed_hand l (Unlock j clears) v n found sends ok failed follows = absurd (cc)
-  failed_hand l (Wake j w to) v n found sends ok failed follows = follows ∙ (ap (λ (b : Bool). cond b None (lock_in_hand (hand_at v.place))) failed ∙ sending_hand l (Wake j w to) v sends ok)
+  failed_hand l (kind.Unlock j clears) v n found sends ok failed follows = absurd (cc)
+  failed_hand l (kind.Wake j w to) v n found sends ok failed follows = follows ∙ (ap (λ (b : Bool). cond b None (lock_in_hand (hand_at v.place))) failed ∙ sending_hand l (kind.Wake j w to) v sends ok)
   failed_hand l k v n found sends ok failed follows = absurd sends
 
   -- the list that goes home isn't read from the table
   next_sending : (l : ℕ) (k : LwStep) (v : View) (n : ℕ) (found other : List Waiter) → IsSending l k → next k v n found ≡ next k v n other
-  next_sending l (Unlock j clears) v n found other sends = refl
-  next_sending l (Wake j w to) v n found other sends = refl
+  next_sending l (kind.Unlock j clears) v n found other sends = refl
+  next_sending l (kind.Wake j w to) v n found other sends = refl
   next_sending l k v n found other sends = absurd sends
 
   failed_keeps : (l : ℕ) (k : LwStep) (n : ℕ) (found : List Waiter) (c : List (ℕ × Waiters)) → IsSending l k → exchanges k n ≡ false → carried_after c (act_of k n found) ≡ c
-  failed_keeps l (Unlock j clears) n found c sends failed = absurd (cc)
-  failed_keeps l (Wake j w to) n found c sends failed = ap (λ (b : Bool). carried_after c (cond b gives keeps)) failed
+  failed_keeps l (kind.Unlock j clears) n found c sends failed = absurd (cc)
+  failed_keeps l (kind.Wake j w to) n found c sends failed = ap (λ (b : Bool). carried_after c (cond b gives keeps)) failed
   failed_keeps l k n found c sends failed = absurd sends
 
   -- the same, once the list was put into its slot; and after an exchange that failed the list is taken out of the slot again
@@ -223,16 +223,16 @@ module _ (lawful : ℕ → List ℕ → Type 0) where
   -- a step that may take the list of its lock in hand
   seated_taking : (s t : Seat Waiters View) (number : ℕ) (modes : List (Option Mode)) (pokes l : ℕ) (k : LwStep) (n : ℕ) (found : List Waiter) → IsTaking l k → IsSeated s number modes pokes → Allowed lawful k s.me.0 → t.table_id ≡ s.table_id
       → t.me.0 ≡ next k s.me.0 n found → t.me.1 ≡ carried_after s.me.1 (act_of k n found) → HandFollows k s.me.0 n found → IsSeated t number modes pokes
-  seated_taking s t number modes pokes l (Lock j b) n found taking h ok table view carried follows = seated_step s t number modes modes pokes pokes (Lock j b) n found h ok table view carried follows h.modes_are h.long h.pokes_are
+  seated_taking s t number modes pokes l (kind.Lock j b) n found taking h ok table view carried follows = seated_step s t number modes modes pokes pokes (kind.Lock j b) n found h ok table view carried follows h.modes_are h.long h.pokes_are
   seated_taking s t number modes pokes l k n found taking h ok table view carried follows = absurd taking
 
   -- where LOCKED wasn't set the list of l is in hand, and its slot is the one taken last
   taken_hand : (l : ℕ) (k : LwStep) (v : View) (n : ℕ) (found : List Waiter) → IsTaking l k → has_flag locked n ≡ 0 → HandFollows k v n found → lock_in_hand (hand_at (next k v n found).place) ≡ Some l
-  taken_hand l (Lock j b) v n found taking clear follows = follows ∙ (ap (λ (x : Bool). cond x (Some j) (lock_in_hand (hand_at v.place))) (eq-eqb (has_flag locked n) 0 clear) ∙ ap Some taking)
+  taken_hand l (kind.Lock j b) v n found taking clear follows = follows ∙ (ap (λ (x : Bool). cond x (Some j) (lock_in_hand (hand_at v.place))) (eq-eqb (has_flag locked n) 0 clear) ∙ ap Some taking)
   taken_hand l k v n found taking clear follows = absurd taking
 
   taken_last : (l slot n : ℕ) (k : LwStep) (found : List Waiter) (c d : List (ℕ × Waiters)) → IsTaking l k → has_flag locked n ≡ 0 → slot ≡ l → d ≡ carried_after c (act_of k n found) → d ≡ (slot, as_waiters found) ∷ rest d
-  taken_last l slot n (Lock j b) found c d taking clear at is = let now : d ≡ (j, as_waiters found) ∷ c = is ∙ ap (λ (x : Bool). carried_after c (cond x (takes j (as_waiters found)) keeps)) (eq-eqb (has_flag locked n) 0 clear) in
+  taken_last l slot n (kind.Lock j b) found c d taking clear at is = let now : d ≡ (j, as_waiters found) ∷ c = is ∙ ap (λ (x : Bool). carried_after c (cond x (takes j (as_waiters found)) keeps)) (eq-eqb (has_flag locked n) 0 clear) in
       let same : j ≡ slot = cc in now ∙ (λ i. (same i, as_waiters found) ∷ rest (sym now i))
   taken_last l slot n k found c d taking clear at is = absurd taking
 

@@ -21,7 +21,7 @@ use Rattle.lw_core.proofs.Places.{places_step, places_draw, places_split, places
 use Rattle.lw_core.proofs.Places as places
 use Rattle.lw_core.proofs.Turns.{Turn, IsSound}
 use Rattle.lw_core.proofs.Flags.{flag_most}
-use Rattle.lw_core.proofs.Turning.{turned}
+use Rattle.lw_core.proofs.Turning as turning
 use Rattle.lw_core.proofs.Standing.{sound_stance, alone_seats, number_below, pokes_few}
 use Rattle.lw_core.proofs.Hands.{home_out}
 
@@ -65,5 +65,5 @@ module _ (lawful : ℕ → List ℕ → Type 0) (z : Size) (s : LwState) (r : Ru
     pub step_turn : (k : LwStep) → IsInRange z k → (v.own ≡ None → ⊥) → Allowed lawful k v → let n = get_or s.words (word_of z (number_of v.own) k) 0 in let found = home_list s.homes (lock_number k) in
         Turn z s.words s.homes (homes_after s.homes (carried k v) (act_of k n found)) (word_of z (number_of v.own) k) (becomes k v n) (stance_of v) (stance_of (next k v n found))
     step_turn k inside numbered ok = let own = numbered_as numbered in
-        turned lawful z s.words s.homes v (places.mine lawful z s r id v at).place (number_of v.own) own (own_inside (number_of v.own) own) (λ l below clear. (r.lists l below).at_home clear)
+        turning.by_kind lawful z s.words s.homes v (places.mine lawful z s r id v at).place (number_of v.own) own (own_inside (number_of v.own) own) (λ l below clear. (r.lists l below).at_home clear)
         (λ l below. part_holds (map (mode_in l) s.views) id (get_or s.words (state_at l) 0) (mode_in l v) (at_seen (mode_in l) s.views id v (mode_in l v) at refl) (r.counts l below)) k inside ok

@@ -7,7 +7,7 @@ use Rattle.proc_table.specs.declared.Mode.TheVariants.{Exclusive}
 use Rattle.lw_core.specs.declared.step.Call.{Call}
 use Rattle.lw_core.specs.declared.step.Call.TheVariants as call
 use Rattle.lw_core.specs.declared.step.LwStep.{LwStep}
-use Rattle.lw_core.specs.declared.step.LwStep.TheVariants.{Load, Grant, Sub, Guard, WaitStore, WaitLoad, Post, Look, Down}
+use Rattle.lw_core.specs.declared.step.LwStep.TheVariants as kind
 use Rattle.lw_core.specs.declared.view.Frame.{Frame}
 use Rattle.lw_core.specs.declared.view.Frame.TheVariants.{Releasing}
 use Rattle.lw_core.specs.declared.view.Hold.{Hold}
@@ -48,8 +48,8 @@ poked_keeps see kept (Some c) v = refl
 poked_keeps see kept None v = refl
 
 pub numbers_kept : (k : LwStep) (v : View) (n : ℕ) (found : List Waiter) → numbers_of (next k v n found) ≡ numbers_of v
-numbers_kept (Grant l m w) v n found = either_way numbers_of (eqb n w) _ _ (numbers_of v) refl refl
-numbers_kept (Post q b) v n found = poked_keeps numbers_of (λ _ _. refl) b _
+numbers_kept (kind.Grant l m w) v n found = either_way numbers_of (eqb n w) _ _ (numbers_of v) refl refl
+numbers_kept (kind.Post q b) v n found = poked_keeps numbers_of (λ _ _. refl) b _
 numbers_kept k v n found = refl
 
 pub hold_here : (v : View) (k : LwStep) (l n : ℕ) (p : Place) (h : Hold) (grants : ℕ) → l < length v.holds → hold_in l (gripped v k l n p h grants) ≡ h
@@ -60,10 +60,10 @@ gripped_else v k i n p h grants l other = get_or-set_other v.holds i l h not_hel
 
 -- a step leaves what the seat has of each lock that it isn't on
 pub hold_else : (k : LwStep) (v : View) (n : ℕ) (found : List Waiter) (l : ℕ) → (lock_of k ≡ Some l → ⊥) → hold_in l (next k v n found) ≡ hold_in l v
-hold_else (Grant i m w) v n found l other = either_way (hold_in l) (eqb n w) _ _ (hold_in l v) (gripped_else v (Grant i m w) i n (on_grant v.surplus (outer v.place)) (held m) (v.grants + 1) l (λ e. other (ap Some (sym e)))) refl
-hold_else (Sub i b) v n found l other = gripped_else v (Sub i b) i n (let_go b i (n - grant_held (mode_in i v)) (releasing b v.place)) not_held v.grants l (λ e. other (ap Some (sym e)))
-hold_else (Guard i k o) v n found l other = gripped_else v (Guard i k o) i n v.place (guard_hold o (hold_in i v) k n) v.grants l (λ e. other (ap Some (sym e)))
-hold_else (Post q b) v n found l other = poked_keeps (hold_in l) (λ _ _. refl) b _
+hold_else (kind.Grant i m w) v n found l other = either_way (hold_in l) (eqb n w) _ _ (hold_in l v) (gripped_else v (kind.Grant i m w) i n (on_grant v.surplus (outer v.place)) (held m) (v.grants + 1) l (λ e. other (ap Some (sym e)))) refl
+hold_else (kind.Sub i b) v n found l other = gripped_else v (kind.Sub i b) i n (let_go b i (n - grant_held (mode_in i v)) (releasing b v.place)) not_held v.grants l (λ e. other (ap Some (sym e)))
+hold_else (kind.Guard i k o) v n found l other = gripped_else v (kind.Guard i k o) i n v.place (guard_hold o (hold_in i v) k n) v.grants l (λ e. other (ap Some (sym e)))
+hold_else (kind.Post q b) v n found l other = poked_keeps (hold_in l) (λ _ _. refl) b _
 hold_else k v n found l other = refl
 
 -- a release goes on in no call, and the lock is held
@@ -86,16 +86,16 @@ on_lock k l P on off = by_lock (lock_of k) refl
 -- the words of a lock that the step isn't on are other words than the step's
 module _ (lawful : ℕ → List ℕ → Type 0) (z : Size) (own : ℕ) where
   pub word_apart : (k : LwStep) (v : View) → Allowed lawful k v → (l : ℕ) → l < z.locks → (lock_of k ≡ Some l → ⊥) → (j : ℕ) → state_at l ≤ j → j ≤ guard_at l 3 → j ≢ word_of z own k
-  word_apart (WaitStore q x) v ok l below ne j from to e = omega arith
-  word_apart WaitLoad v ok l below ne j from to e = omega arith
-  word_apart (Post q b) v ok l below ne j from to e = omega arith
-  word_apart (Look b) v ok l below ne j from to e = omega arith
-  word_apart Down v ok l below ne j from to e = omega arith
+  word_apart (kind.WaitStore q x) v ok l below ne j from to e = omega arith
+  word_apart kind.WaitLoad v ok l below ne j from to e = omega arith
+  word_apart (kind.Post q b) v ok l below ne j from to e = omega arith
+  word_apart (kind.Look b) v ok l below ne j from to e = omega arith
+  word_apart kind.Down v ok l below ne j from to e = omega arith
   word_apart k v ok l below ne j from to e = ne (ap Some (omega arith))
 
   -- the number that is drawn next is no step's word
   pub word_past_first : (k : LwStep) → 0 < word_of z own k
-  word_past_first (Load i b) = omega arith
+  word_past_first (kind.Load i b) = omega arith
   word_past_first k = omega arith
 
 pub guarded_same : (words others : List ℕ) (l : ℕ) → ((k : ℕ) → k < 4 → get_or words (guard_at l k) 0 ≡ get_or others (guard_at l k) 0) → guarded words l ≡ guarded others l

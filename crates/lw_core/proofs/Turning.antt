@@ -12,7 +12,7 @@ use Rattle.proc_table.specs.declared.Mode.TheVariants as mode
 use Rattle.lw_core.specs.declared.step.Call.{Call}
 use Rattle.lw_core.specs.declared.step.Call.TheVariants as call
 use Rattle.lw_core.specs.declared.step.LwStep.{LwStep}
-use Rattle.lw_core.specs.declared.step.LwStep.TheVariants.{Load, Grant, Refuse, Sub, Peek, Guard, Lock, VarLoad, VarStore, Unlock, Flag, WaitStore, WaitLoad, Wake, Post, Look, Down, SetReleaseOk}
+use Rattle.lw_core.specs.declared.step.LwStep.TheVariants as kind
 use Rattle.lw_core.specs.declared.view.Frame.{Frame}
 use Rattle.lw_core.specs.declared.view.Frame.TheVariants.{Attempting, Trying, Unqueued, Queued, TakingList, Spinning, Queueing, Flagging, Announcing, Appending, Dequeueing, Checking, Removing, Withdrawing, Answering, Looking, Asleep, Downing, Sleeping, Woken, GivingBack, Waking, Marking, Detaching, Clearing, Posting, Peeking, Comparing, Reading, Returning, VarUnqueued, Allowing, VarQueued, VarLeaving, Storing, Publishing, Calling, Unhanding, Releasing}
 use Rattle.lw_core.specs.declared.view.Hold.{Hold}
@@ -361,61 +361,61 @@ module _ (lawful : ℕ → List ℕ → Type 0) (z : Size) (words : List ℕ) (h
   Turned o k = let i = word_of z o k in let n = get_or words i 0 in let found = home_list homes (lock_number k) in
       Turn z words homes (homes_after homes (carried k v) (act_of k n found)) i (becomes k v n) (stance_of v) (stance_of (next k v n found))
 
-  pub turned : (k : LwStep) → IsInRange z k → Allowed lawful k v → Turned p k
-  turned (Load l None) inside ok = stays (reads refl) refl (loaded_same v.own v.surplus v.poked v.downed v.holds l (get_or words (state_at l) 0) v.place ok fits)
-  turned (Load l (Some (call.Try k m))) inside ok = stays (reads refl) refl (begun_same v.own v.surplus v.poked v.downed v.place (λ (q : Place). Trying k m (get_or words (state_at l) 0) ∷ q) ok.1 refl)
-  turned (Load l (Some (call.Acquire k m))) inside ok = stays (reads refl) refl (begun_same v.own v.surplus v.poked v.downed v.place (λ (q : Place). Trying k m (get_or words (state_at l) 0) ∷ Unqueued k m (want_of m) false ∷ q) ok.1 refl)
-  turned (Load l (Some (call.AcquireOrWait k m))) inside ok = stays (reads refl) refl (begun_same v.own v.surplus v.poked v.downed v.place (λ (q : Place). Trying k m (get_or words (state_at l) 0) ∷ Unqueued k m want.UntilFree false ∷ q) ok.1 refl)
-  turned (Load l (Some c)) inside ok = absurd ok
-  turned (Grant l m w) inside ok = let i : ℕ = state_at l in let n : ℕ = get_or words i 0 in let k : LwStep = Grant l m w in let at_top = top_is v.place (Trying l m w) ok.0 in
+  pub by_kind : (k : LwStep) → IsInRange z k → Allowed lawful k v → Turned p k
+  by_kind (kind.Load l None) inside ok = stays (reads refl) refl (loaded_same v.own v.surplus v.poked v.downed v.holds l (get_or words (state_at l) 0) v.place ok fits)
+  by_kind (kind.Load l (Some (call.Try k m))) inside ok = stays (reads refl) refl (begun_same v.own v.surplus v.poked v.downed v.place (λ (q : Place). Trying k m (get_or words (state_at l) 0) ∷ q) ok.1 refl)
+  by_kind (kind.Load l (Some (call.Acquire k m))) inside ok = stays (reads refl) refl (begun_same v.own v.surplus v.poked v.downed v.place (λ (q : Place). Trying k m (get_or words (state_at l) 0) ∷ Unqueued k m (want_of m) false ∷ q) ok.1 refl)
+  by_kind (kind.Load l (Some (call.AcquireOrWait k m))) inside ok = stays (reads refl) refl (begun_same v.own v.surplus v.poked v.downed v.place (λ (q : Place). Trying k m (get_or words (state_at l) 0) ∷ Unqueued k m want.UntilFree false ∷ q) ok.1 refl)
+  by_kind (kind.Load l (Some c)) inside ok = absurd ok
+  by_kind (kind.Grant l m w) inside ok = let i : ℕ = state_at l in let n : ℕ = get_or words i 0 in let k : LwStep = kind.Grant l m w in let at_top = top_is v.place (Trying l m w) ok.0 in
       on_exchange n w (λ (b : Bool). Turn z words homes homes i (cond b (w + grant_of m) n) (stance_of v) (stance_of (cond b (gripped v k l n (on_grant v.surplus (outer v.place)) (held m) (v.grants + 1)) (moved v k n (Trying l m n ∷ outer v.place)))))
       (λ hit. let same = granted_flag m n (subst (λ (x : ℕ). is_free m x ≡ true) (sym hit) ok.1) in let sum = ap (λ (x : ℕ). x + grant_of m) (sym hit) in
       stays (grants l inside.0 refl (ap (has_flag locked) sum ∙ same.0) (ap (has_flag release_ok) sum ∙ same.1) (ap (has_flag has_waiters) sum ∙ same.2)) refl
       (granted_same v.own v.surplus v.poked v.downed l w m (outer v.place) (attempt v fits l w m ok.0) ∙ ap (λ (q : Place). stance v.own q v.surplus v.poked v.downed) (sym at_top)))
       (λ miss. stays (reads refl) refl (retried_same v.own v.surplus v.poked v.downed l w n m (outer v.place) (attempt v fits l w m ok.0) ∙ ap (λ (q : Place). stance v.own q v.surplus v.poked v.downed) (sym at_top)))
-  turned (Refuse l m w) inside ok = let i : ℕ = state_at l in let n : ℕ = get_or words i 0 in let k : LwStep = Refuse l m w in let at_top = top_is v.place (Trying l m w) ok.0 in
+  by_kind (kind.Refuse l m w) inside ok = let i : ℕ = state_at l in let n : ℕ = get_or words i 0 in let k : LwStep = kind.Refuse l m w in let at_top = top_is v.place (Trying l m w) ok.0 in
       on_exchange n w (λ (b : Bool). Turn z words homes homes i n (stance_of v) (stance_of (moved v k n (cond b (on_refusal (outer v.place)) (Trying l m n ∷ outer v.place)))))
       (λ hit. stays (reads refl) refl (refused_same v.own v.surplus v.poked v.downed l w m (outer v.place) (attempt v fits l w m ok.0) ∙ ap (λ (q : Place). stance v.own q v.surplus v.poked v.downed) (sym at_top)))
       (λ miss. stays (reads refl) refl (retried_same v.own v.surplus v.poked v.downed l w n m (outer v.place) (attempt v fits l w m ok.0) ∙ ap (λ (q : Place). stance v.own q v.surplus v.poked v.downed) (sym at_top)))
-  turned (Sub l b) inside ok = let n : ℕ = get_or words (state_at l) 0 in let same = let_go_flag (grant_held (mode_in l v)) n (enough l inside.0) in
+  by_kind (kind.Sub l b) inside ok = let n : ℕ = get_or words (state_at l) 0 in let same = let_go_flag (grant_held (mode_in l v)) n (enough l inside.0) in
       stays (grants l inside.0 refl same.0 same.1 same.2) refl (let_go_same v.own v.surplus v.poked v.downed b l (n - grant_held (mode_in l v)) (releasing b v.place) (begun_release b l v fits ok.0).0 ∙ released_same v.own v.surplus v.poked v.downed b l v (begun_release b l v fits ok.0).0 ok.0)
-  turned (Peek l (Some (call.WaitForVar k old))) inside ok = stays (reads refl) refl (peeked_same v.own v.surplus v.poked v.downed k old (get_or words (state_at l) 0) v.place ok.1)
-  turned (Peek l None) inside ok = stays (reads refl) refl (looked_on_same v.own v.surplus v.poked v.downed v.holds l (get_or words (state_at l) 0) v.place ok fits)
-  turned (Peek l (Some c)) inside ok = absurd ok
-  turned (Guard l k o) inside ok = stays (guards l k inside.0 ok.0 refl) refl refl
-  turned (Lock l b) inside ok = let now = taking_fits (lawful l) b l v fits ok in let same = taking_same v.own v.surplus v.poked v.downed (lawful l) b l v v.place refl ok in let q : Place = taking b v.place in let i : ℕ = state_at l in let n : ℕ = get_or words i 0 in let found : List Waiter = home_list homes l in
+  by_kind (kind.Peek l (Some (call.WaitForVar k old))) inside ok = stays (reads refl) refl (peeked_same v.own v.surplus v.poked v.downed k old (get_or words (state_at l) 0) v.place ok.1)
+  by_kind (kind.Peek l None) inside ok = stays (reads refl) refl (looked_on_same v.own v.surplus v.poked v.downed v.holds l (get_or words (state_at l) 0) v.place ok fits)
+  by_kind (kind.Peek l (Some c)) inside ok = absurd ok
+  by_kind (kind.Guard l k o) inside ok = stays (guards l k inside.0 ok.0 refl) refl refl
+  by_kind (kind.Lock l b) inside ok = let now = taking_fits (lawful l) b l v fits ok in let same = taking_same v.own v.surplus v.poked v.downed (lawful l) b l v v.place refl ok in let q : Place = taking b v.place in let i : ℕ = state_at l in let n : ℕ = get_or words i 0 in let found : List Waiter = home_list homes l in
       dite (ℕ_discrete (has_flag locked n) 0)
       (λ clear. let there = home l inside.0 clear in
-      subst (λ (c : Bool). Turn z words homes (homes_after homes (carried (Lock l b) v) (cond c (takes_out l (as_waiters found)) keeps)) i (set_flag locked n) (stance_of v) (stance_of (moved v (Lock l b) n (cond c (in_hand found (outer q)) (Spinning l ∷ outer q))))) (sym (eq-eqb (has_flag locked n) 0 clear))
+      subst (λ (c : Bool). Turn z words homes (homes_after homes (carried (kind.Lock l b) v) (cond c (takes_out l (as_waiters found)) keeps)) i (set_flag locked n) (stance_of v) (stance_of (moved v (kind.Lock l b) n (cond c (in_hand found (outer q)) (Spinning l ∷ outer q))))) (sym (eq-eqb (has_flag locked n) 0 clear))
       (subst (λ (u : Stance). Turn z words homes (set homes l maybe.none) i (set_flag locked n) u (stance v.own (in_hand found (outer q)) v.surplus v.poked v.downed)) same (lock_turned z words homes v.own v.surplus v.poked v.downed p mine below v.holds l q now.0 now.1 inside.0 there.0 there.1 clear)))
-      (λ there. subst (λ (c : Bool). Turn z words homes (homes_after homes (carried (Lock l b) v) (cond c (takes_out l (as_waiters found)) keeps)) i (set_flag locked n) (stance_of v) (stance_of (moved v (Lock l b) n (cond c (in_hand found (outer q)) (Spinning l ∷ outer q))))) (sym (ne_eqb (has_flag locked n) 0 there))
+      (λ there. subst (λ (c : Bool). Turn z words homes (homes_after homes (carried (kind.Lock l b) v) (cond c (takes_out l (as_waiters found)) keeps)) i (set_flag locked n) (stance_of v) (stance_of (moved v (kind.Lock l b) n (cond c (in_hand found (outer q)) (Spinning l ∷ outer q))))) (sym (ne_eqb (has_flag locked n) 0 there))
       (subst (λ (u : Stance). Turn z words homes homes i (set_flag locked n) u (stance v.own (Spinning l ∷ outer q) v.surplus v.poked v.downed)) same (spin_turned z words homes v.own v.surplus v.poked v.downed p mine below v.holds l q now.0 now.1 inside.0 (omega arith))))
-  turned (VarLoad l) inside ok = stays (reads refl) refl (compared_same v.own v.surplus v.poked v.downed v.holds l (get_or words (var_at l) 0) v.place ok fits)
-  turned (VarStore l x) inside ok = stays (varies l inside.0 refl) refl (published_same v.own v.surplus v.poked v.downed l x v.place ok)
-  turned (Unlock l c) inside ok = let num = ap number_of mine in
-      subst (λ (o : ℕ). Turn z words homes (set homes l (maybe.some (as_waiters (left_at v.place o)))) (state_at l) (becomes (Unlock l c) v (get_or words (state_at l) 0)) (stance_of v) (stance_of (next (Unlock l c) v (get_or words (state_at l) 0) (home_list homes l)))) (sym num)
+  by_kind (kind.VarLoad l) inside ok = stays (reads refl) refl (compared_same v.own v.surplus v.poked v.downed v.holds l (get_or words (var_at l) 0) v.place ok fits)
+  by_kind (kind.VarStore l x) inside ok = stays (varies l inside.0 refl) refl (published_same v.own v.surplus v.poked v.downed l x v.place ok)
+  by_kind (kind.Unlock l c) inside ok = let num = ap number_of mine in
+      subst (λ (o : ℕ). Turn z words homes (set homes l (maybe.some (as_waiters (left_at v.place o)))) (state_at l) (becomes (kind.Unlock l c) v (get_or words (state_at l) 0)) (stance_of v) (stance_of (next (kind.Unlock l c) v (get_or words (state_at l) 0) (home_list homes l)))) (sym num)
       (unlock_turned z words homes v.own v.surplus v.poked v.downed p mine below v.holds l c v.place (subst (λ (o : ℕ). MaySendHome l c o v.place) num ok) fits inside.0)
-  turned (Flag l) inside ok = flag_turned z words homes v.own v.surplus v.poked v.downed p mine below l v.place ok inside.0
-  turned (WaitStore q x) inside ok = store_turned z words homes v.own v.surplus v.poked v.downed p mine below v.holds q x v.place ok fits inside.1
-  turned WaitLoad inside ok = reread_turned z words homes v.own v.surplus v.poked v.downed p mine below v.holds v.place ok fits
-  turned (Wake l w to) inside ok = let i : ℕ = state_at l in let n : ℕ = get_or words i 0 in
-      on_exchange n w (λ (b : Bool). Turn z words homes (homes_after homes (carried (Wake l w to) v) (cond b gives keeps)) i (cond b to n) (stance_of v) (stance_of (moved v (Wake l w to) n (detached b n v.place))))
-      (λ hit. subst (λ (o : ℕ). Turn z words homes (set homes l (maybe.some (as_waiters (left_at v.place o)))) i to (stance_of v) (stance_of (moved v (Wake l w to) n (detached true n v.place)))) (sym (ap number_of mine))
+  by_kind (kind.Flag l) inside ok = flag_turned z words homes v.own v.surplus v.poked v.downed p mine below l v.place ok inside.0
+  by_kind (kind.WaitStore q x) inside ok = store_turned z words homes v.own v.surplus v.poked v.downed p mine below v.holds q x v.place ok fits inside.1
+  by_kind kind.WaitLoad inside ok = reread_turned z words homes v.own v.surplus v.poked v.downed p mine below v.holds v.place ok fits
+  by_kind (kind.Wake l w to) inside ok = let i : ℕ = state_at l in let n : ℕ = get_or words i 0 in
+      on_exchange n w (λ (b : Bool). Turn z words homes (homes_after homes (carried (kind.Wake l w to) v) (cond b gives keeps)) i (cond b to n) (stance_of v) (stance_of (moved v (kind.Wake l w to) n (detached b n v.place))))
+      (λ hit. subst (λ (o : ℕ). Turn z words homes (set homes l (maybe.some (as_waiters (left_at v.place o)))) i to (stance_of v) (stance_of (moved v (kind.Wake l w to) n (detached true n v.place)))) (sym (ap number_of mine))
       (wake_turned z words homes v.own v.surplus v.poked v.downed p mine below v.holds l w to v.place ok fits inside.0 hit))
       (λ miss. stays (reads refl) refl (wake_retried z words homes v.own v.surplus v.poked v.downed p mine below l w to n v.place ok))
-  turned (Post q None) inside ok = post_turned z words homes v.own v.surplus v.poked v.downed p mine below v.holds q v.place ok fits inside.1
-  turned (Post q (Some (call.Poke i))) inside ok = Rattle.lw_core.proofs.Turns.pokes q inside.1 refl refl refl (poked_same ok.0 ok.1)
+  by_kind (kind.Post q None) inside ok = post_turned z words homes v.own v.surplus v.poked v.downed p mine below v.holds q v.place ok fits inside.1
+  by_kind (kind.Post q (Some (call.Poke i))) inside ok = Rattle.lw_core.proofs.Turns.pokes q inside.1 refl refl refl (poked_same ok.0 ok.1)
     where
       poked_same : i ≡ q → v.place ≡ [] → stance v.own (posted (surplus_posted v.place v.surplus) v.place) (surplus_posted v.place v.surplus) (v.poked ++ i ∷ []) v.downed ≡ record (stance_of v) { poked = v.poked ++ q ∷ [] }
       poked_same is e = ap (λ (r : Place). stance v.own (posted (surplus_posted r v.surplus) r) (surplus_posted r v.surplus) (v.poked ++ i ∷ []) v.downed) e
           ∙ ((λ j. stance v.own (sym e j) v.surplus (v.poked ++ is j ∷ []) v.downed))
-  turned (Post q (Some c)) inside ok = absurd ok
-  turned (Look b) inside ok = look_turned z words homes v.own v.surplus v.poked v.downed p mine below b v.place ok
-  turned Down inside ok = let at_top = top_is v.place Downing ok in let behind = subst (PlaceFits v.holds v.surplus) at_top fits in
+  by_kind (kind.Post q (Some c)) inside ok = absurd ok
+  by_kind (kind.Look b) inside ok = look_turned z words homes v.own v.surplus v.poked v.downed p mine below b v.place ok
+  by_kind kind.Down inside ok = let at_top = top_is v.place Downing ok in let behind = subst (PlaceFits v.holds v.surplus) at_top fits in
       subst (λ (o : Option ℕ). Turn z words homes homes (sem_at z p) (get_or words (sem_at z p) 0 - 1) (stance_of v) (stance v.own (outer v.place) v.surplus v.poked (downed_at (outer v.place) o v.downed))) (sym mine)
       (subst (λ (q : Place). Turn z words homes homes (sem_at z p) (get_or words (sem_at z p) 0 - 1) (stance v.own q v.surplus v.poked v.downed) (stance v.own (outer v.place) v.surplus v.poked (downed_at (outer v.place) (Some p) v.downed))) (sym at_top)
       (down_turned z words homes v.own v.surplus v.poked v.downed p mine below v.holds (outer v.place) behind))
-  turned (SetReleaseOk l) inside ok = answer_turned z words homes v.own v.surplus v.poked v.downed p mine below v.holds l v.place ok fits inside.0
+  by_kind (kind.SetReleaseOk l) inside ok = answer_turned z words homes v.own v.surplus v.poked v.downed p mine below v.holds l v.place ok fits inside.0
 
 -- THE LIST IN HAND. The lock of a stance's list in hand
 abbrev lock_held : Stance → Option ℕ
@@ -513,46 +513,46 @@ module _ (own : Option ℕ) (s : ℕ) (poked downed : List ℕ) where
   hand_answered holds l p ok fits = absurd ok
 
 module _ (lawful : ℕ → List ℕ → Type 0) (z : Size) (v : View) (fits : PlaceFits v.holds v.surplus v.place) where
-  abbrev here : Place → Stance
-  here q = stance v.own q v.surplus v.poked v.downed
+  abbrev standing : Place → Stance
+  standing q = stance v.own q v.surplus v.poked v.downed
 
   -- a step takes the list of its lock in hand, sends the list in hand home, or leaves in hand what was
   pub hand_follows : (k : LwStep) (n : ℕ) (found : List Waiter) → Allowed lawful k v → HandFollows k v n found
-  hand_follows (Load l None) n found ok = ap lock_held (loaded_same v.own v.surplus v.poked v.downed v.holds l n v.place ok fits)
-  hand_follows (Load l (Some (call.Try k m))) n found ok = ap lock_held (begun_same v.own v.surplus v.poked v.downed v.place (λ (q : Place). Trying k m n ∷ q) ok.1 refl)
-  hand_follows (Load l (Some (call.Acquire k m))) n found ok = ap lock_held (begun_same v.own v.surplus v.poked v.downed v.place (λ (q : Place). Trying k m n ∷ Unqueued k m (want_of m) false ∷ q) ok.1 refl)
-  hand_follows (Load l (Some (call.AcquireOrWait k m))) n found ok = ap lock_held (begun_same v.own v.surplus v.poked v.downed v.place (λ (q : Place). Trying k m n ∷ Unqueued k m want.UntilFree false ∷ q) ok.1 refl)
-  hand_follows (Load l (Some c)) n found ok = absurd ok
-  hand_follows (Grant l m w) n found ok = let k : LwStep = Grant l m w in let at_top = ap (λ (q : Place). lock_held (here q)) (sym (top_is v.place (Trying l m w) ok.0)) in
+  hand_follows (kind.Load l None) n found ok = ap lock_held (loaded_same v.own v.surplus v.poked v.downed v.holds l n v.place ok fits)
+  hand_follows (kind.Load l (Some (call.Try k m))) n found ok = ap lock_held (begun_same v.own v.surplus v.poked v.downed v.place (λ (q : Place). Trying k m n ∷ q) ok.1 refl)
+  hand_follows (kind.Load l (Some (call.Acquire k m))) n found ok = ap lock_held (begun_same v.own v.surplus v.poked v.downed v.place (λ (q : Place). Trying k m n ∷ Unqueued k m (want_of m) false ∷ q) ok.1 refl)
+  hand_follows (kind.Load l (Some (call.AcquireOrWait k m))) n found ok = ap lock_held (begun_same v.own v.surplus v.poked v.downed v.place (λ (q : Place). Trying k m n ∷ Unqueued k m want.UntilFree false ∷ q) ok.1 refl)
+  hand_follows (kind.Load l (Some c)) n found ok = absurd ok
+  hand_follows (kind.Grant l m w) n found ok = let k : LwStep = kind.Grant l m w in let at_top = ap (λ (q : Place). lock_held (standing q)) (sym (top_is v.place (Trying l m w) ok.0)) in
       on_exchange n w (λ (b : Bool). lock_in_hand (hand_at (cond b (gripped v k l n (on_grant v.surplus (outer v.place)) (held m) (v.grants + 1)) (moved v k n (Trying l m n ∷ outer v.place))).place) ≡ lock_in_hand (hand_at v.place))
       (λ _. ap lock_held (granted_same v.own v.surplus v.poked v.downed l w m (outer v.place) (attempt v fits l w m ok.0)) ∙ at_top)
       (λ _. ap lock_held (retried_same v.own v.surplus v.poked v.downed l w n m (outer v.place) (attempt v fits l w m ok.0)) ∙ at_top)
-  hand_follows (Refuse l m w) n found ok = let at_top = ap (λ (q : Place). lock_held (here q)) (sym (top_is v.place (Trying l m w) ok.0)) in
+  hand_follows (kind.Refuse l m w) n found ok = let at_top = ap (λ (q : Place). lock_held (standing q)) (sym (top_is v.place (Trying l m w) ok.0)) in
       on_exchange n w (λ (b : Bool). lock_in_hand (hand_at (cond b (on_refusal (outer v.place)) (Trying l m n ∷ outer v.place))) ≡ lock_in_hand (hand_at v.place))
       (λ _. ap lock_held (refused_same v.own v.surplus v.poked v.downed l w m (outer v.place) (attempt v fits l w m ok.0)) ∙ at_top)
       (λ _. ap lock_held (retried_same v.own v.surplus v.poked v.downed l w n m (outer v.place) (attempt v fits l w m ok.0)) ∙ at_top)
-  hand_follows (Sub l b) n found ok = ap lock_held (let_go_same v.own v.surplus v.poked v.downed b l (n - grant_held (mode_in l v)) (releasing b v.place) (begun_release b l v fits ok.0).0 ∙ released_same v.own v.surplus v.poked v.downed b l v (begun_release b l v fits ok.0).0 ok.0)
-  hand_follows (Peek l (Some (call.WaitForVar k old))) n found ok = ap lock_held (peeked_same v.own v.surplus v.poked v.downed k old n v.place ok.1)
-  hand_follows (Peek l None) n found ok = ap lock_held (looked_on_same v.own v.surplus v.poked v.downed v.holds l n v.place ok fits)
-  hand_follows (Peek l (Some c)) n found ok = absurd ok
-  hand_follows (Guard l k o) n found ok = refl
-  hand_follows (Lock l b) n found ok = let now = taking_fits (lawful l) b l v fits ok in let same = ap lock_held (taking_same v.own v.surplus v.poked v.downed (lawful l) b l v v.place refl ok) in
+  hand_follows (kind.Sub l b) n found ok = ap lock_held (let_go_same v.own v.surplus v.poked v.downed b l (n - grant_held (mode_in l v)) (releasing b v.place) (begun_release b l v fits ok.0).0 ∙ released_same v.own v.surplus v.poked v.downed b l v (begun_release b l v fits ok.0).0 ok.0)
+  hand_follows (kind.Peek l (Some (call.WaitForVar k old))) n found ok = ap lock_held (peeked_same v.own v.surplus v.poked v.downed k old n v.place ok.1)
+  hand_follows (kind.Peek l None) n found ok = ap lock_held (looked_on_same v.own v.surplus v.poked v.downed v.holds l n v.place ok fits)
+  hand_follows (kind.Peek l (Some c)) n found ok = absurd ok
+  hand_follows (kind.Guard l k o) n found ok = refl
+  hand_follows (kind.Lock l b) n found ok = let now = taking_fits (lawful l) b l v fits ok in let same = ap lock_held (taking_same v.own v.surplus v.poked v.downed (lawful l) b l v v.place refl ok) in
       subst (λ (o : Option ℕ). lock_in_hand (hand_at (cond (eqb (has_flag locked n) 0) (in_hand found (outer (taking b v.place))) (Spinning l ∷ outer (taking b v.place)))) ≡ cond (eqb (has_flag locked n) 0) (Some l) o) same (by_place (taking b v.place) now.0 now.1 (eqb (has_flag locked n) 0))
     where
       by_place : (q : Place) → MayTake l q → PlaceFits v.holds v.surplus q → (b : Bool) → lock_in_hand (hand_at (cond b (in_hand found (outer q)) (Spinning l ∷ outer q))) ≡ cond b (Some l) (lock_in_hand (hand_at q))
       by_place (f ∷ q) may at_home true = ap lock_held (taken_hand v.own v.surplus v.poked v.downed v.holds l f found q may at_home)
       by_place (f ∷ q) may at_home false = ap lock_held (spun_same v.own v.surplus v.poked v.downed v.holds l f q may at_home)
       by_place [] may at_home b = absurd may
-  hand_follows (VarLoad l) n found ok = ap lock_held (compared_same v.own v.surplus v.poked v.downed v.holds l n v.place ok fits)
-  hand_follows (VarStore l x) n found ok = ap lock_held (published_same v.own v.surplus v.poked v.downed l x v.place ok)
-  hand_follows (Unlock l c) n found ok = hand_unlocked v.own v.surplus v.poked v.downed v.holds l (number_of v.own) c v.place ok fits
-  hand_follows (Flag l) n found ok = hand_flagged v.own v.surplus v.poked v.downed l v.place ok
-  hand_follows (WaitStore q x) n found ok = hand_stored v.own v.surplus v.poked v.downed v.holds q x v.place ok fits
-  hand_follows WaitLoad n found ok = hand_reread v.own v.surplus v.poked v.downed v.holds n v.place ok fits
-  hand_follows (Wake l w to) n found ok = hand_detached v.own v.surplus v.poked v.downed v.holds l w to n v.place ok fits (eqb n w)
-  hand_follows (Post q None) n found ok = hand_posted v.own v.surplus v.poked v.downed v.holds q v.place ok fits
-  hand_follows (Post q (Some (call.Poke i))) n found ok = ap (λ (r : Place). lock_in_hand (hand_at (posted (surplus_posted r v.surplus) r))) ok.1 ∙ ap (λ (r : Place). lock_in_hand (hand_at r)) (sym ok.1)
-  hand_follows (Post q (Some c)) n found ok = absurd ok
-  hand_follows (Look b) n found ok = hand_looked v.own v.surplus v.poked v.downed b v.place ok (eqb n 0)
-  hand_follows Down n found ok = let at_top = top_is v.place Downing ok in hand_down v.own v.surplus v.poked v.downed v.holds (outer v.place) (subst (PlaceFits v.holds v.surplus) at_top fits) ∙ ap (λ (q : Place). lock_in_hand (hand_at q)) (sym at_top)
-  hand_follows (SetReleaseOk l) n found ok = hand_answered v.own v.surplus v.poked v.downed v.holds l v.place ok fits
+  hand_follows (kind.VarLoad l) n found ok = ap lock_held (compared_same v.own v.surplus v.poked v.downed v.holds l n v.place ok fits)
+  hand_follows (kind.VarStore l x) n found ok = ap lock_held (published_same v.own v.surplus v.poked v.downed l x v.place ok)
+  hand_follows (kind.Unlock l c) n found ok = hand_unlocked v.own v.surplus v.poked v.downed v.holds l (number_of v.own) c v.place ok fits
+  hand_follows (kind.Flag l) n found ok = hand_flagged v.own v.surplus v.poked v.downed l v.place ok
+  hand_follows (kind.WaitStore q x) n found ok = hand_stored v.own v.surplus v.poked v.downed v.holds q x v.place ok fits
+  hand_follows kind.WaitLoad n found ok = hand_reread v.own v.surplus v.poked v.downed v.holds n v.place ok fits
+  hand_follows (kind.Wake l w to) n found ok = hand_detached v.own v.surplus v.poked v.downed v.holds l w to n v.place ok fits (eqb n w)
+  hand_follows (kind.Post q None) n found ok = hand_posted v.own v.surplus v.poked v.downed v.holds q v.place ok fits
+  hand_follows (kind.Post q (Some (call.Poke i))) n found ok = ap (λ (r : Place). lock_in_hand (hand_at (posted (surplus_posted r v.surplus) r))) ok.1 ∙ ap (λ (r : Place). lock_in_hand (hand_at r)) (sym ok.1)
+  hand_follows (kind.Post q (Some c)) n found ok = absurd ok
+  hand_follows (kind.Look b) n found ok = hand_looked v.own v.surplus v.poked v.downed b v.place ok (eqb n 0)
+  hand_follows kind.Down n found ok = let at_top = top_is v.place Downing ok in hand_down v.own v.surplus v.poked v.downed v.holds (outer v.place) (subst (PlaceFits v.holds v.surplus) at_top fits) ∙ ap (λ (q : Place). lock_in_hand (hand_at q)) (sym at_top)
+  hand_follows (kind.SetReleaseOk l) n found ok = hand_answered v.own v.surplus v.poked v.downed v.holds l v.place ok fits

@@ -13,7 +13,7 @@ use Rattle.seat_roster.specs.Roster.{Numbers}
 use Rattle.seat_roster.proofs.Stretches.{seen, at_seen}
 use Rattle.lw_core.specs.declared.step.Call.TheVariants as call
 use Rattle.lw_core.specs.declared.step.LwStep.{LwStep}
-use Rattle.lw_core.specs.declared.step.LwStep.TheVariants.{Load, Grant, Refuse, Sub, Peek, Guard, Lock, Unlock, Flag, WaitStore, WaitLoad, Wake, Post, Look, Down, SetReleaseOk, VarLoad, VarStore}
+use Rattle.lw_core.specs.declared.step.LwStep.TheVariants as kind
 use Rattle.lw_core.specs.declared.view.Frame.TheVariants.{Trying, Spinning, Downing, Detaching}
 use Rattle.lw_core.specs.declared.view.Size.{Size}
 use Rattle.lw_core.specs.declared.view.View.{View}
@@ -65,12 +65,12 @@ module _ (z : Size) (words : List ℕ) (homes after : Homes) (i x : ℕ) (v w : 
   past ne = kept (λ k inside e. absurd (ne k inside e))
 
   -- the state word of k becomes x
-  here : (k : ℕ) → i ≡ state_at k → (l ≡ k → word_after ≡ x)
-  here k is same = ap (λ (j : ℕ). get_or (set words i x) j 0) (let e : state_at l ≡ i = omega arith in e) ∙ get_or-set_same words i x 0 (omega arith)
+  word_is : (k : ℕ) → i ≡ state_at k → (l ≡ k → word_after ≡ x)
+  word_is k is same = ap (λ (j : ℕ). get_or (set words i x) j 0) (let e : state_at l ≡ i = omega arith in e) ∙ get_or-set_same words i x 0 (omega arith)
 
   sets : (k : ℕ) → i ≡ state_at k → x ≡ set_flag release_ok (get_or words i 0) → StaysOrAllCalled
   sets k is to = dite (ℕ_discrete l k)
-      (λ same. inl (λ was. ap (has_flag release_ok) (here k is same ∙ to) ∙ flag_set 29 (get_or words i 0)))
+      (λ same. inl (λ was. ap (has_flag release_ok) (word_is k is same ∙ to) ∙ flag_set 29 (get_or words i 0)))
       (λ ne. inl (λ was. ap (has_flag release_ok) (get_or-set_other words i (state_at l) x 0 (λ e. ne (omega arith))) ∙ was))
 
   ok_turn : Turn z words homes after i x v w → StaysOrAllCalled
@@ -88,7 +88,7 @@ module _ (z : Size) (words : List ℕ) (homes after : Homes) (i x : ℕ) (v w : 
       (λ same. inr (
         (λ p. let home : home_list after l ≡ kept_from found = ap (home_list after) same ∙ (ap home_of (ap (λ (a : Homes). get_elem? a k) goes ∙ set_here homes k (maybe.some list) (omega arith)) ∙ items) in
             ap (times_with p UntilFree) home ∙ no_until_free p (kept_from found) (kept_locks found (subst (λ (o : Option Hand). IsUntilFreeFirst (hand_list o)) mine first))),
-        ap (has_flag locked) (here k at_k same ∙ to) ∙ woken_unlocked (taken_from found) (kept_from found) (get_or words i 0),
+        ap (has_flag locked) (word_is k at_k same ∙ to) ∙ woken_unlocked (taken_from found) (kept_from found) (get_or words i 0),
       ))
       (λ ne. inl (λ was. ap (has_flag release_ok) (get_or-set_other words i (state_at l) x 0 (λ e. ne (omega arith))) ∙ was))
   ok_turn (summons k found list inside at_k to items goes mine flagged marked unlisted owed leaving is) = kept (λ j below e. ap (has_flag release_ok) to ∙ clear_keeps 28 29 (get_or words i 0) refl)
@@ -159,63 +159,63 @@ module _ (lawful : ℕ → List ℕ → Type 0) (z : Size) (s : LwState) (r : Ru
       let grant : grant_held (mode_in i v) ≡ 0x0100_0000 = ap grant_held alone in let counted = counts.counted in let one = counts.alone (omega arith) in
       ⊎_elim (λ clear. none_waits (ap (has_flag has_waiters) word_is ∙ clear)) (λ clear. ok_is_clear (ap (has_flag release_ok) word_is ∙ clear)) (no_call x (omega arith) none)
 
-  -- what the step k does for l where the place p becomes q
+  -- what the step k by_kind for l where the place p becomes q
   abbrev Takes : LwStep → Place → Place → Type 0
   Takes k p q = Goes l (get_or (words_by k) (var_at l) 0) (has_flag release_ok (get_or (words_by k) (state_at l) 0) ≡ 1) (IsDone l (get_or (words_by k) (state_at l) 0) (homes_by k)) p q
 
-  does : (k : LwStep) → IsInRange z k → Allowed lawful k v → Takes k v.place (view_by k).place
-  does (Load i None) inside ok = loaded_goes l _ _ _ i (get_or s.words (state_at i) 0) v.place ok
-  does (Load i (Some (call.Try j m))) inside ok = begun_goes l _ _ _ v.place _ ok.1 refl
-  does (Load i (Some (call.Acquire j m))) inside ok = begun_goes l _ _ _ v.place _ ok.1 refl
-  does (Load i (Some (call.AcquireOrWait j m))) inside ok = begun_goes l _ _ _ v.place _ ok.1 refl
-  does (Load i (Some c)) inside ok = absurd ok
-  does (Grant i m w) inside ok = let n : ℕ = get_or s.words (state_at i) 0 in let k : LwStep = Grant i m w in let at_top = top_is v.place (Trying i m w) ok.0 in
+  by_kind : (k : LwStep) → IsInRange z k → Allowed lawful k v → Takes k v.place (view_by k).place
+  by_kind (kind.Load i None) inside ok = loaded_goes l _ _ _ i (get_or s.words (state_at i) 0) v.place ok
+  by_kind (kind.Load i (Some (call.Try j m))) inside ok = begun_goes l _ _ _ v.place _ ok.1 refl
+  by_kind (kind.Load i (Some (call.Acquire j m))) inside ok = begun_goes l _ _ _ v.place _ ok.1 refl
+  by_kind (kind.Load i (Some (call.AcquireOrWait j m))) inside ok = begun_goes l _ _ _ v.place _ ok.1 refl
+  by_kind (kind.Load i (Some c)) inside ok = absurd ok
+  by_kind (kind.Grant i m w) inside ok = let n : ℕ = get_or s.words (state_at i) 0 in let k : LwStep = kind.Grant i m w in let at_top = top_is v.place (Trying i m w) ok.0 in
       on_exchange n w (λ (b : Bool). Takes k v.place (cond b (gripped v k i n (on_grant v.surplus (outer v.place)) (held m) (v.grants + 1)) (moved v k n (Trying i m n ∷ outer v.place))).place)
       (λ hit. subst (λ (p : Place). Takes k p (on_grant v.surplus (outer v.place))) (sym at_top) (granted_goes l _ _ _ i w v.surplus m (outer v.place) (places.tries lawful z s r id v at i w m ok.0).2))
       (λ miss. subst (λ (p : Place). Takes k p (Trying i m n ∷ outer v.place)) (sym at_top) (retried_goes l _ _ _ i w n m (outer v.place)))
-  does (Refuse i m w) inside ok = let n : ℕ = get_or s.words (state_at i) 0 in let k : LwStep = Refuse i m w in let at_top = top_is v.place (Trying i m w) ok.0 in
+  by_kind (kind.Refuse i m w) inside ok = let n : ℕ = get_or s.words (state_at i) 0 in let k : LwStep = kind.Refuse i m w in let at_top = top_is v.place (Trying i m w) ok.0 in
       on_exchange n w (λ (b : Bool). Takes k v.place (cond b (on_refusal (outer v.place)) (Trying i m n ∷ outer v.place)))
       (λ hit. subst (λ (p : Place). Takes k p (on_refusal (outer v.place))) (sym at_top) (refused_goes l _ _ _ i w v.surplus m (outer v.place) (places.tries lawful z s r id v at i w m ok.0).2))
       (λ miss. subst (λ (p : Place). Takes k p (Trying i m n ∷ outer v.place)) (sym at_top) (retried_goes l _ _ _ i w n m (outer v.place)))
-  does (Sub i b) inside ok = let x : ℕ = get_or s.words (state_at i) 0 - grant_held (mode_in i v) in
+  by_kind (kind.Sub i b) inside ok = let x : ℕ = get_or s.words (state_at i) 0 - grant_held (mode_in i v) in
       let_go_goes l _ _ _ b i x v fits (begun_release b i v fits ok.0).0 ok.0 (λ is alone none. released i is alone none _ (stored_here i x is))
-  does (Peek i (Some (call.WaitForVar j old))) inside ok = peeked_goes l _ _ _ v.surplus j old (get_or s.words (state_at i) 0) v.place ok.1
-  does (Peek i None) inside ok = looked_on_goes l _ _ _ v.holds v.surplus i (get_or s.words (state_at i) 0) v.place ok fits
-  does (Peek i (Some c)) inside ok = absurd ok
-  does (Guard i k o) inside ok = idle_goes l _ _ _ v.place v.place ok.1 refl
-  does (Lock i b) inside ok = let now = taking_fits (lawful i) b i v fits ok in taking_goes l _ _ _ (lawful i) b i v _ ok (by_place (taking b v.place) now.0 now.1)
+  by_kind (kind.Peek i (Some (call.WaitForVar j old))) inside ok = peeked_goes l _ _ _ v.surplus j old (get_or s.words (state_at i) 0) v.place ok.1
+  by_kind (kind.Peek i None) inside ok = looked_on_goes l _ _ _ v.holds v.surplus i (get_or s.words (state_at i) 0) v.place ok fits
+  by_kind (kind.Peek i (Some c)) inside ok = absurd ok
+  by_kind (kind.Guard i k o) inside ok = idle_goes l _ _ _ v.place v.place ok.1 refl
+  by_kind (kind.Lock i b) inside ok = let now = taking_fits (lawful i) b i v fits ok in taking_goes l _ _ _ (lawful i) b i v _ ok (by_place (taking b v.place) now.0 now.1)
     where
-      by_place : (p : Place) → MayTake i p → PlaceFits v.holds v.surplus p → let clear = eqb (has_flag locked (get_or s.words (state_at i) 0)) 0 in Takes (Lock i b) p (cond clear (in_hand (home_list s.homes i) (outer p)) (Spinning i ∷ outer p))
+      by_place : (p : Place) → MayTake i p → PlaceFits v.holds v.surplus p → let clear = eqb (has_flag locked (get_or s.words (state_at i) 0)) 0 in Takes (kind.Lock i b) p (cond clear (in_hand (home_list s.homes i) (outer p)) (Spinning i ∷ outer p))
       by_place (f ∷ p) may at_place = taken_goes l _ _ _ v.holds v.surplus i (home_list s.homes i) f p may at_place _
       by_place [] may at_place = absurd may
-  does (VarLoad i) inside ok = compared_goes l _ _ _ v.holds v.surplus i (get_or s.words (var_at i) 0) v.place ok fits (λ is. word_read s.words (var_at i) (get_or s.words (var_at i) 0) (var_at l) refl ∙ ap (λ (j : ℕ). get_or s.words (var_at j) 0) (sym is))
-  does (VarStore i x) inside ok = published_goes l _ _ _ i x v.place ok
-  does (Unlock i c) inside ok = sent_goes l _ _ _ v.holds v.surplus i (number_of v.own) c v.place ok fits (λ found marked is there. all_called
+  by_kind (kind.VarLoad i) inside ok = compared_goes l _ _ _ v.holds v.surplus i (get_or s.words (var_at i) 0) v.place ok fits (λ is. word_read s.words (var_at i) (get_or s.words (var_at i) 0) (var_at l) refl ∙ ap (λ (j : ℕ). get_or s.words (var_at j) 0) (sym is))
+  by_kind (kind.VarStore i x) inside ok = published_goes l _ _ _ i x v.place ok
+  by_kind (kind.Unlock i c) inside ok = sent_goes l _ _ _ v.holds v.surplus i (number_of v.own) c v.place ok fits (λ found marked is there. all_called
       (called i _ is (left_at v.place (number_of v.own))
       (subst (λ (p : Place). HasNoUntilFree (left_at p (number_of v.own))) (sym there) (until_free_all found (subst (λ (p : Place). IsUntilFreeFirst (hand_list (hand_at p))) there first)))
       (ap (has_flag locked) (stored_here i _ is) ∙ home_unlocked c (get_or s.words (state_at i) 0))))
-  does (Flag i) inside ok = flagged_goes l _ _ _ i v.place ok
-  does (WaitStore q x) inside ok = stored_goes l _ _ _ v.holds v.surplus q x v.own v.place ok fits
-  does WaitLoad inside ok = reread_goes l _ _ _ v.holds v.surplus _ v.place ok fits
-  does (Wake i w to) inside ok = let n : ℕ = get_or s.words (state_at i) 0 in
+  by_kind (kind.Flag i) inside ok = flagged_goes l _ _ _ i v.place ok
+  by_kind (kind.WaitStore q x) inside ok = stored_goes l _ _ _ v.holds v.surplus q x v.own v.place ok fits
+  by_kind kind.WaitLoad inside ok = reread_goes l _ _ _ v.holds v.surplus _ v.place ok fits
+  by_kind (kind.Wake i w to) inside ok = let n : ℕ = get_or s.words (state_at i) 0 in
       on_exchange n w (λ (b : Bool). let words : List ℕ = set s.words (state_at i) (cond b to n) in
-      Goes l (get_or words (var_at l) 0) (has_flag release_ok (get_or words (state_at l) 0) ≡ 1) (IsDone l (get_or words (state_at l) 0) (homes_after s.homes (carried (Wake i w to) v) (cond b table.gives table.keeps))) v.place (detached b n v.place))
+      Goes l (get_or words (var_at l) 0) (has_flag release_ok (get_or words (state_at l) 0) ≡ 1) (IsDone l (get_or words (state_at l) 0) (homes_after s.homes (carried (kind.Wake i w to) v) (cond b table.gives table.keeps))) v.place (detached b n v.place))
       (λ hit. detached_goes l _ _ _ v.holds v.surplus i w to n v.place ok fits (λ is. all_called (woken i w to _ ok is (stored_here i to is))))
       (λ miss. missed_goes l _ _ _ i w to n v.place ok)
-  does (Post q None) inside ok = posted_goes l _ _ _ v.holds v.surplus q v.own v.place ok fits
-  does (Post q (Some (call.Poke i))) inside ok = idle_goes l _ _ _ v.place _ ok.1 (ap (λ (p : Place). posted (surplus_posted p v.surplus) p) ok.1 ∙ sym ok.1)
-  does (Post q (Some c)) inside ok = absurd ok
-  does (Look b) inside ok = looked_goes l _ _ _ b v.place ok _
-  does Down inside ok = let at_top = top_is v.place Downing ok in
-      subst (λ (p : Place). Takes Down p (outer v.place)) (sym at_top) (down_goes l _ _ _ v.holds v.surplus (outer v.place) (subst (PlaceFits v.holds v.surplus) at_top fits))
-  does (SetReleaseOk i) inside ok = answered_goes l _ _ _ v.holds v.surplus i v.place ok fits (λ is. ap (has_flag release_ok) (stored_here i _ is) ∙ flag_set 29 (get_or s.words (state_at i) 0))
+  by_kind (kind.Post q None) inside ok = posted_goes l _ _ _ v.holds v.surplus q v.own v.place ok fits
+  by_kind (kind.Post q (Some (call.Poke i))) inside ok = idle_goes l _ _ _ v.place _ ok.1 (ap (λ (p : Place). posted (surplus_posted p v.surplus) p) ok.1 ∙ sym ok.1)
+  by_kind (kind.Post q (Some c)) inside ok = absurd ok
+  by_kind (kind.Look b) inside ok = looked_goes l _ _ _ b v.place ok _
+  by_kind kind.Down inside ok = let at_top = top_is v.place Downing ok in
+      subst (λ (p : Place). Takes kind.Down p (outer v.place)) (sym at_top) (down_goes l _ _ _ v.holds v.surplus (outer v.place) (subst (PlaceFits v.holds v.surplus) at_top fits))
+  by_kind (kind.SetReleaseOk i) inside ok = answered_goes l _ _ _ v.holds v.surplus i v.place ok fits (λ is. ap (has_flag release_ok) (stored_here i _ is) ∙ flag_set 29 (get_or s.words (state_at i) 0))
 
   -- a step leaves the variable of l as it was, or stores it with the list of l in hand and updates l
   stores : (k : LwStep) → Allowed lawful k v → (get_or (words_by k) (var_at l) 0 ≡ variable) ⊎ ((updates_at (view_by k).place ≡ Some l) × (has_list l (stance_of v) ≡ 1))
-  stores (VarStore i x) ok = let t = storer_has i x v.place ok in dite (ℕ_discrete i l)
+  stores (kind.VarStore i x) ok = let t = storer_has i x v.place ok in dite (ℕ_discrete i l)
       (λ is. inr (t.1 ∙ ap Some is, ap (λ (j : ℕ). has_list j (stance_of v)) (sym is) ∙ t.0))
       (λ ne. inl (get_or-set_other s.words (var_at i) (var_at l) x 0 (λ e. ne (omega arith))))
-  stores (VarLoad i) ok = inl (word_read s.words (var_at i) (get_or s.words (var_at i) 0) (var_at l) refl)
+  stores (kind.VarLoad i) ok = inl (word_read s.words (var_at i) (get_or s.words (var_at i) 0) (var_at l) refl)
   stores k ok = inl (get_or-set_other s.words (word_of z (number_of v.own) k) (var_at l) _ 0 (λ e. omega arith))
 
   -- THE STEP
@@ -239,7 +239,7 @@ module _ (lawful : ℕ → List ℕ → Type 0) (z : Size) (s : LwState) (r : Ru
     turn = step_turn lawful z s r id v at k inside numbered ok
 
     takes_on : Takes k v.place (view_by k).place
-    takes_on = does k inside ok
+    takes_on = by_kind k inside ok
 
     -- a seat of the state afterwards, which watches the variable and is listed
     module _ (j p old : ℕ) (u : View) (at_now : get_elem? now.views j ≡ maybe.some u) (own : u.own ≡ Some p) (some : 1 ≤ listed p now.homes (map stance_of now.views)) where

@@ -26,12 +26,12 @@ NoWakeIsLost z s = (id p : ℕ) (v : View) → get_elem? s.views id ≡ maybe.so
 abbrev pub IsHeldByNobody : ℕ → LwState → Type 0
 IsHeldByNobody l s = (i : ℕ) (u : View) → get_elem? s.views i ≡ maybe.some u → mode_in l u ≡ None
 
--- No lock that nobody holds has a backend on its list that sleeps for it, while nobody is releasing it or answering for it
+-- No lock that nobody holds has a backend on its list past the attempt or the look that found it taken, while nobody is releasing it or answering for it
 abbrev pub NoFreeLockIsSleptFor : Size → LwState → Type 0
 NoFreeLockIsSleptFor z s = (l : ℕ) → l < z.locks → IsHeldByNobody l s → (id p : ℕ) (v : View) → get_elem? s.views id ≡ maybe.some v
     → v.own ≡ Some p → committed_at v.place ≡ Some l → 1 ≤ listed p s.homes (map stance_of s.views) → IsAnswered l s.homes s.views
 
--- nobody stored the lock's variable and has still to call those who wait for it, or is releasing the lock
+-- nobody stored the lock's variable and has still to call those who wait for it, or to let go of the lock and wake them
 abbrev pub IsUpdatedByNobody : ℕ → LwState → Type 0
 IsUpdatedByNobody l s = (i : ℕ) (u : View) → get_elem? s.views i ≡ maybe.some u → updates_at u.place ≡ Some l → ⊥
 

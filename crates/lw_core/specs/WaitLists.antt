@@ -50,12 +50,12 @@ without p (w ∷ ws) = cond (w.proc == p) (without p ws) (w ∷ without p ws)
 
 -- Whom a wake takes, and whom it leaves, where it took one who wants the lock before or didn't. From the head on it takes each but who wants the lock exclusively where one was taken who wants the lock; after one who is taken and wants it exclusively it takes none
 abbrev pub taken_after : Bool → List Waiter → List Waiter
-taken_after some [] = []
-taken_after some (w ∷ ws) = cond (same_want w.want Exclusive) (cond some (taken_after some ws) (w ∷ [])) (w ∷ taken_after (cond (same_want w.want Shared) true some) ws)
+taken_after took_shared [] = []
+taken_after took_shared (w ∷ ws) = cond (same_want w.want Exclusive) (cond took_shared (taken_after took_shared ws) (w ∷ [])) (w ∷ taken_after (cond (same_want w.want Shared) true took_shared) ws)
 
 abbrev pub kept_after : Bool → List Waiter → List Waiter
-kept_after some [] = []
-kept_after some (w ∷ ws) = cond (same_want w.want Exclusive) (cond some (w ∷ kept_after some ws) ws) (kept_after (cond (same_want w.want Shared) true some) ws)
+kept_after took_shared [] = []
+kept_after took_shared (w ∷ ws) = cond (same_want w.want Exclusive) (cond took_shared (w ∷ kept_after took_shared ws) ws) (kept_after (cond (same_want w.want Shared) true took_shared) ws)
 
 abbrev pub taken_from : List Waiter → List Waiter
 taken_from ws = taken_after false ws

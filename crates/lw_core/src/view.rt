@@ -144,7 +144,7 @@ pub struct Size {
     pub procs: u32,
 }
 
-/// What a waiter waits for: a mode, or that nobody holds the lock exclusively.
+/// What a waiter waits for: a mode, or, until free, any wake of the lock or store of its variable.
 #[derive(Clone, Copy, Default)]
 pub enum Want {
     #[default]
