@@ -1,6 +1,6 @@
 //! What no clause says: an update wakes a backend that waits for it, line by line; each call once; and
 //! three threads follow the values that a fourth one publishes.
-ghost use Rattle.std.specs.Prelude.{◌≡◌, ◌<◌, ◌≤◌, ◌==◌, false, cond, [], ◌∷◌, None, Some};
+ghost use Rattle.std.specs.Prelude.{◌≡◌, ◌<◌, ◌≤◌, ◌==◌, false, true, cond, [], ◌∷◌, None, Some};
 ghost use Rattle.proc_table.specs.declared.Mode.TheVariants.{Exclusive};
 ghost use Rattle.lw_core.specs.declared.view.Frame.TheVariants.{Asleep, Calling, Comparing, Peeking, Sleeping, TakingList, VarUnqueued};
 ghost use Rattle.lw_core.specs.declared.view.Want.TheVariants.{UntilFree};

@@ -1,4 +1,4 @@
-use Rattle.std.proofs.Common.{◌≡◌, [], ◌∷◌, take, drop}
+use Rattle.std.proofs.Common.{◌≡◌, false, [], ◌∷◌, take, drop}
 use Rattle.lw_core.specs.declared.view.Frame.TheVariants.{Marking}
 use Rattle.lwlock.specs.Calls.{Went}
 use Rattle.lwlock.specs.Wakes.{found_at}
