@@ -1,5 +1,5 @@
 -- What a join leaves written, by what the join of its two tables shows.
-use Rattle.std.proofs.Common.{◌≡◌, ◌⊎◌, inl, inr, ℕ, ◌≤◌, ltb, List, [], length, Option, Some, None, Ok, refl, sym}
+use Rattle.std.proofs.Common.{◌≡◌, ◌⊎◌, inl, inr, ℕ, ◌≤◌, ltb, List, length, Option, Some, None, Ok, refl}
 use Rattle.std.proofs.lemmas.Bool.{cases_Bool, le-ltb}
 use Rattle.row_model.specs.Table.{Table, nested_loop}
 use Rattle.row_model.specs.declared.Side.TheVariants as side

@@ -1,5 +1,5 @@
 use Rattle.std.proofs.Common.{◌≡◌, ◌∙◌, ◌+◌, [], ℕ, refl, sym, ap, arith}
-use Rattle.pg_sync.specs.Make.{drawn_table, next_state, state_after, states_after}
+use Rattle.pg_sync.specs.Make.{drawn_table, next_state, states_after}
 use Rattle.pg_sync.proofs.MakeFacts.{drawing, drawn_records-fine, drawn_records-form, drawn_records-next, drawn_records-table, length-states, state-more, state-start, states-start}
 use Rattle.pg_sync.proofs.make.drawn_table.Goals as goal
 
