@@ -33,8 +33,18 @@ impl Model for MemInputs {
 
     ghost Value = { Readable };
 
-    ghost view = { λ s. record { files = s.files.items; failing = s.failing.items; piece = s.piece; calls = s.calls; inner = s.inner; outer = s.outer;
-        inner_opens = s.inner_opens; inner_reads = s.inner_reads; outer_opens = s.outer_opens; outer_reads = s.outer_reads } };
+    ghost view = { λ s. record {
+      files = s.files.items;
+      failing = s.failing.items;
+      piece = s.piece;
+      calls = s.calls;
+      inner = s.inner;
+      outer = s.outer;
+      inner_opens = s.inner_opens;
+      inner_reads = s.inner_reads;
+      outer_opens = s.outer_opens;
+      outer_reads = s.outer_reads;
+    } };
 
     ghost invariant = { λ s. 0 < s.piece };
 }
