@@ -22,6 +22,8 @@ impl Sink for Pieces {
 
     ghost faults = { λ s. s.faults };
 
+    ghost capacity = { λ _. None };
+
     fn write(&mut self, piece: &[u8]) -> Result<usize, Failed> {
         if let Ok(copy) = Vec::from_slice(self.alloc, piece) {
             if self.pieces.push(copy).is_ok() {
