@@ -1,0 +1,17 @@
+pub mod Bits
+pub mod Effects
+pub mod Moves
+pub mod BitsKept
+pub mod GenerationsKept
+pub mod PlacesKept
+pub mod AbsorbedKept
+pub mod WordsAreMade
+pub mod RuleKept
+pub mod SeatsKept
+pub mod RunsKept
+pub mod Standing
+pub mod KeptOverRuns
+pub mod Asks
+pub mod Openings
+pub mod OpeningWords
+pub mod LastEmitted
