@@ -1,0 +1,4 @@
+pub mod Asking
+pub mod HowFar
+pub mod Backing
+pub mod Upto
