@@ -18,6 +18,7 @@ use Rattle.signal_core.specs.Seating.{Stance}
 use Rattle.signal_core.specs.Places.{in_hand, put_back, swapped_at, under_way, counts, emits}
 use Rattle.signal_core.specs.PlacesFit.{PlaceFits}
 use Rattle.signal_core.proofs.Bits.{cut_le, cut_most, lt_true, lt_false, mask_else, mask_or, mask_cleared, mask_clear}
+use Rattle.signal_core.proofs.EitherWay.{either_way}
 
 -- EMISSIONS. No step but the one that takes a number ends an emission under way
 
@@ -182,11 +183,7 @@ empty_hand : (words : List ℕ) (o : ℕ) (p u : Place) → ((k : ℕ) → in_ha
 empty_hand words o p u none k = let a = none k in omega arith
 
 begun_empty : (c : Call) (n k : ℕ) → in_hand k (begun c n) ≡ 0
-begun_empty (call.Emit j x) n k = by_case (nat_lt n Rattle.signal_core.specs.Words.worn)
-  where
-    by_case : (b : Bool) → in_hand k (cond b (Some (Posting j x 0)) None) ≡ 0
-    by_case true = refl
-    by_case false = refl
+begun_empty (call.Emit j x) n k = either_way (λ (u : Place). in_hand k u ≡ 0) (nat_lt n Rattle.signal_core.specs.Words.worn) (Some (Posting j x 0)) None refl refl
 begun_empty call.Join n k = refl
 begun_empty call.Leave n k = refl
 begun_empty call.Absorb n k = refl
@@ -194,11 +191,7 @@ begun_empty (call.Published q) n k = refl
 
 headed_empty : (n k : ℕ) (p : Place) → MayRead p → in_hand k (headed n p) ≡ 0
 headed_empty n k (Some Reading) ok = refl
-headed_empty n k (Some (Heading g)) ok = by_case (eqb n g)
-  where
-    by_case : (b : Bool) → in_hand k (cond b None (Some (Swapping n))) ≡ 0
-    by_case true = refl
-    by_case false = refl
+headed_empty n k (Some (Heading g)) ok = either_way (λ (u : Place). in_hand k u ≡ 0) (eqb n g) None (Some (Swapping n)) refl refl
 headed_empty n k p ok = absurd ok
 
 numbered_empty : (k : ℕ) (p : Place) → MayNumber p → in_hand k (Rattle.signal_core.specs.Machine.numbered p) ≡ 0
@@ -211,18 +204,10 @@ opened_empty g k (Some (Taking h found)) ok = refl
 opened_empty g k p ok = absurd ok
 
 told_empty : (z : About) (q k : ℕ) → in_hand k (told z q) ≡ 0
-told_empty z q k = by_case (eqb (q + 1) z.procs)
-  where
-    by_case : (b : Bool) → in_hand k (cond b None (Some (Telling (q + 1)))) ≡ 0
-    by_case true = refl
-    by_case false = refl
+told_empty z q k = either_way (λ (u : Place). in_hand k u ≡ 0) (eqb (q + 1) z.procs) None (Some (Telling (q + 1))) refl refl
 
 looked_empty : (z : About) (q n k : ℕ) (p : Place) → MayTell q p → in_hand k (looked z n p) ≡ 0
-looked_empty z q n k (Some (Telling r)) ok = by_case (eqb n 0)
-  where
-    by_case : (b : Bool) → in_hand k (cond b (told z r) (Some (Prodding r))) ≡ 0
-    by_case true = told_empty z r k
-    by_case false = refl
+looked_empty z q n k (Some (Telling r)) ok = either_way (λ (u : Place). in_hand k u ≡ 0) (eqb n 0) (told z r) (Some (Prodding r)) (told_empty z r k) refl
 looked_empty z q n k p ok = absurd ok
 
 post_hand : (z : About) (own : Option ℕ) (k q j : ℕ) (failed : Option ℕ) (p : Place) → MayPost z own q j failed p → in_hand k (posted z j failed p) ≤ in_hand k p
@@ -238,11 +223,7 @@ post_hand z own k q j (Some failed) p ok = absurd ok
 
 prod_hand : (z : About) (own : Option ℕ) (k q : ℕ) (p : Place) → MayProd own q p → in_hand k (prodded z p) ≤ in_hand k p
 prod_hand z own k q (Some (Prodding r)) ok = let a = told_empty z r k in omega arith
-prod_hand z own k q (Some (Reminding h found failed j)) ok = by_case (nat_lt failed (2 ^ (j + 1)))
-  where
-    by_case : (b : Bool) → in_hand k (cond b None (Some (Keeping h found failed (j + 1)))) ≤ cond (nat_lt k (j + 1)) 0 (bit_at found k)
-    by_case true = omega arith
-    by_case false = omega arith
+prod_hand z own k q (Some (Reminding h found failed j)) ok = either_way (λ (u : Place). in_hand k u ≤ cond (nat_lt k (j + 1)) 0 (bit_at found k)) (nat_lt failed (2 ^ (j + 1))) None (Some (Keeping h found failed (j + 1))) (omega arith) (omega arith)
 prod_hand z own k q p ok = absurd ok
 
 pub hands_say : (shows : ℕ → ℕ → Type 0) (z : About) (words : List ℕ) (o : ℕ) (x : SigStep) (n : ℕ) (t : Option Slot) (p : Place) → n ≡ get_or words (word_of o x) 0 → Permits shows z x (Some o) t p → HandSays words o p (place_after z x n p)
@@ -302,11 +283,7 @@ absent : {A : Type 0} (o : Option ℕ) (h : ℕ) → o ≡ None → o ≡ Some h
 absent o h none some = let e : None ≡ Some h = sym none ∙ some in absurd (cc)
 
 begun_unswapped : (c : Call) (n : ℕ) → swapped_at (begun c n) ≡ None
-begun_unswapped (call.Emit j x) n = by_case (nat_lt n Rattle.signal_core.specs.Words.worn)
-  where
-    by_case : (b : Bool) → swapped_at (cond b (Some (Posting j x 0)) None) ≡ None
-    by_case true = refl
-    by_case false = refl
+begun_unswapped (call.Emit j x) n = either_way (λ (u : Place). swapped_at u ≡ None) (nat_lt n Rattle.signal_core.specs.Words.worn) (Some (Posting j x 0)) None refl refl
 begun_unswapped call.Join n = refl
 begun_unswapped call.Leave n = refl
 begun_unswapped call.Absorb n = refl
@@ -314,11 +291,7 @@ begun_unswapped (call.Published q) n = refl
 
 headed_unswapped : (n : ℕ) (p : Place) → MayRead p → swapped_at (headed n p) ≡ None
 headed_unswapped n (Some Reading) ok = refl
-headed_unswapped n (Some (Heading g)) ok = by_case (eqb n g)
-  where
-    by_case : (b : Bool) → swapped_at (cond b None (Some (Swapping n))) ≡ None
-    by_case true = refl
-    by_case false = refl
+headed_unswapped n (Some (Heading g)) ok = either_way (λ (u : Place). swapped_at u ≡ None) (eqb n g) None (Some (Swapping n)) refl refl
 headed_unswapped n p ok = absurd ok
 
 numbered_unswapped : (p : Place) → MayNumber p → swapped_at (Rattle.signal_core.specs.Machine.numbered p) ≡ None
@@ -331,18 +304,10 @@ opened_unswapped g (Some (Taking h found)) ok = refl
 opened_unswapped g p ok = absurd ok
 
 told_unswapped : (z : About) (q : ℕ) → swapped_at (told z q) ≡ None
-told_unswapped z q = by_case (eqb (q + 1) z.procs)
-  where
-    by_case : (b : Bool) → swapped_at (cond b None (Some (Telling (q + 1)))) ≡ None
-    by_case true = refl
-    by_case false = refl
+told_unswapped z q = either_way (λ (u : Place). swapped_at u ≡ None) (eqb (q + 1) z.procs) None (Some (Telling (q + 1))) refl refl
 
 looked_unswapped : (z : About) (q n : ℕ) (p : Place) → MayTell q p → swapped_at (looked z n p) ≡ None
-looked_unswapped z q n (Some (Telling r)) ok = by_case (eqb n 0)
-  where
-    by_case : (b : Bool) → swapped_at (cond b (told z r) (Some (Prodding r))) ≡ None
-    by_case true = told_unswapped z r
-    by_case false = refl
+looked_unswapped z q n (Some (Telling r)) ok = either_way (λ (u : Place). swapped_at u ≡ None) (eqb n 0) (told z r) (Some (Prodding r)) (told_unswapped z r) refl
 looked_unswapped z q n p ok = absurd ok
 
 back_le : (k a b x : ℕ) → a ≤ b → cond (nat_lt k a) x 0 ≤ cond (nat_lt k b) x 0
@@ -354,11 +319,7 @@ back_le k a b x le = by_case (nat_lt k a) (nat_lt k b) refl refl
     by_case true false ea eb = absurd (grind (arith, nat_tests, ea, eb, le))
 
 post_swap : (z : About) (new : List ℕ) (own : Option ℕ) (o q j : ℕ) (failed : Option ℕ) (p : Place) → MayPost z own q j failed p → (h : ℕ) → swapped_at (posted z j failed p) ≡ Some h → SwapSays new o p (posted z j failed p) h
-post_swap z new own o q j None (Some (Posting i x r)) ok h e = absent _ h (by_case (eqb (r + 1) z.procs)) e
-  where
-    by_case : (b : Bool) → swapped_at (cond b (Some (Numbering i x)) (Some (Posting i x (r + 1)))) ≡ None
-    by_case true = refl
-    by_case false = refl
+post_swap z new own o q j None (Some (Posting i x r)) ok h e = absent _ h (either_way (λ (u : Place). swapped_at u ≡ None) (eqb (r + 1) z.procs) (Some (Numbering i x)) (Some (Posting i x (r + 1))) refl refl) e
 post_swap z new own o q j None (Some (Keeping g found failed done)) ok h e = inl (e, λ k. back_le k done (j + 1) (bit_at failed k) (let a = ok.1.0 in omega arith))
 post_swap z new own o q j (Some failed) (Some (Taking g found)) ok h e = inl (e, λ k. omega arith)
 post_swap z new own o q j None p ok h e = absurd ok
@@ -386,8 +347,4 @@ swap_says shows z words o (Gload q None) n t p wide ok h e = absent _ h (ap (λ 
 swap_says shows z words o (Pstore y) n t p wide ok h e = absent _ h refl e
 swap_says shows z words o (Pload q) n t p wide ok h e = absent _ h (looked_unswapped z q n p ok.1) e
 swap_says shows z words o (Pend q) n t p wide ok h e = prod_swap z _ (Some o) o q p ok.1 h e
-swap_says shows z words o (Pswap c) n t p wide ok h e = absent _ h (by_case (eqb n 0)) e
-  where
-    by_case : (b : Bool) → swapped_at (cond b None (Some Comparing)) ≡ None
-    by_case true = refl
-    by_case false = refl
+swap_says shows z words o (Pswap c) n t p wide ok h e = absent _ h (either_way (λ (u : Place). swapped_at u ≡ None) (eqb n 0) None (Some Comparing) refl refl) e

@@ -26,6 +26,7 @@ use Rattle.signal_core.specs.GenerationsStand.{shortfall, short_of, SlotStands, 
 use Rattle.signal_core.proofs.Effects.{turned}
 use Rattle.signal_core.specs.Told.{gen_then}
 use Rattle.signal_core.proofs.Moves.{Move}
+use Rattle.signal_core.proofs.EitherWay.{either_way}
 
 -- one member alone adds to a total
 pub total_lone : {A : Type 0} (f : A → ℕ) (l : List A) (i : ℕ) (v : A) → get_elem? l i ≡ maybe.some v → ((j : ℕ) (u : A) → get_elem? l j ≡ maybe.some u → j ≢ i → f u ≡ 0) → total f l ≡ f v
@@ -101,11 +102,7 @@ module _ (words : List ℕ) (o : ℕ) (x : SigStep) (n : ℕ) where
   other_word apart s = get_or-set_other words (word_of o x) (gen_at s) (becomes x n) 0 (apart s)
 
 begun_gone : (c : Call) (n : ℕ) → gen_of None (begun c n) ≡ gone
-begun_gone (call.Emit j x) n = by_case (nat_lt n worn)
-  where
-    by_case : (b : Bool) → gen_of None (cond b (Some (Posting j x 0)) None) ≡ gone
-    by_case true = refl
-    by_case false = refl
+begun_gone (call.Emit j x) n = either_way (λ (u : Place). gen_of None u ≡ gone) (nat_lt n worn) (Some (Posting j x 0)) None refl refl
 begun_gone call.Join n = refl
 begun_gone call.Leave n = refl
 begun_gone call.Absorb n = refl
@@ -117,11 +114,7 @@ BothGone p u = (gen_of None p ≡ gone) × (gen_of None u ≡ gone)
 
 headed_gone : (n : ℕ) (p : Place) → MayRead p → BothGone p (headed n p)
 headed_gone n (Some Reading) ok = (refl, refl)
-headed_gone n (Some (Heading g)) ok = (refl, by_case (eqb n g))
-  where
-    by_case : (b : Bool) → gen_of None (cond b None (Some (Swapping n))) ≡ gone
-    by_case true = refl
-    by_case false = refl
+headed_gone n (Some (Heading g)) ok = (refl, either_way (λ (u : Place). gen_of None u ≡ gone) (eqb n g) None (Some (Swapping n)) refl refl)
 headed_gone n p ok = absurd ok
 
 numbered_gone : (p : Place) → MayNumber p → BothGone p (numbered p)
@@ -133,26 +126,14 @@ swapped_gone n (Some (Swapping h)) ok = (refl, refl)
 swapped_gone n p ok = absurd ok
 
 told_gone : (z : About) (q : ℕ) → gen_of None (told z q) ≡ gone
-told_gone z q = by_case (eqb (q + 1) z.procs)
-  where
-    by_case : (b : Bool) → gen_of None (cond b None (Some (Telling (q + 1)))) ≡ gone
-    by_case true = refl
-    by_case false = refl
+told_gone z q = either_way (λ (u : Place). gen_of None u ≡ gone) (eqb (q + 1) z.procs) None (Some (Telling (q + 1))) refl refl
 
 looked_gone : (z : About) (q n : ℕ) (p : Place) → MayTell q p → BothGone p (looked z n p)
-looked_gone z q n (Some (Telling r)) ok = (refl, by_case (eqb n 0))
-  where
-    by_case : (b : Bool) → gen_of None (cond b (told z r) (Some (Prodding r))) ≡ gone
-    by_case true = told_gone z r
-    by_case false = refl
+looked_gone z q n (Some (Telling r)) ok = (refl, either_way (λ (u : Place). gen_of None u ≡ gone) (eqb n 0) (told z r) (Some (Prodding r)) (told_gone z r) refl)
 looked_gone z q n p ok = absurd ok
 
 posted_gone : (z : About) (own : Option ℕ) (q j : ℕ) (failed : Option ℕ) (p : Place) → MayPost z own q j failed p → BothGone p (posted z j failed p)
-posted_gone z own q j None (Some (Posting i x r)) ok = (refl, by_case (eqb (r + 1) z.procs))
-  where
-    by_case : (b : Bool) → gen_of None (cond b (Some (Numbering i x)) (Some (Posting i x (r + 1)))) ≡ gone
-    by_case true = refl
-    by_case false = refl
+posted_gone z own q j None (Some (Posting i x r)) ok = (refl, either_way (λ (u : Place). gen_of None u ≡ gone) (eqb (r + 1) z.procs) (Some (Numbering i x)) (Some (Posting i x (r + 1))) refl refl)
 posted_gone z own q j None (Some (Keeping h found failed done)) ok = (refl, refl)
 posted_gone z own q j (Some failed) (Some (Taking h found)) ok = (refl, refl)
 posted_gone z own q j None p ok = absurd ok
@@ -160,11 +141,7 @@ posted_gone z own q j (Some failed) p ok = absurd ok
 
 prodded_gone : (z : About) (own : Option ℕ) (q : ℕ) (p : Place) → MayProd own q p → BothGone p (prodded z p)
 prodded_gone z own q (Some (Prodding r)) ok = (refl, told_gone z r)
-prodded_gone z own q (Some (Reminding h found failed j)) ok = (refl, by_case (nat_lt failed (2 ^ (j + 1))))
-  where
-    by_case : (b : Bool) → gen_of None (cond b None (Some (Keeping h found failed (j + 1)))) ≡ gone
-    by_case true = refl
-    by_case false = refl
+prodded_gone z own q (Some (Reminding h found failed j)) ok = (refl, either_way (λ (u : Place). gen_of None u ≡ gone) (nat_lt failed (2 ^ (j + 1))) None (Some (Keeping h found failed (j + 1))) refl refl)
 prodded_gone z own q p ok = absurd ok
 
 gen_says : (shows : ℕ → ℕ → Type 0) (z : About) (words : List ℕ) (o : ℕ) (x : SigStep) (n : ℕ) (t : Option Slot) (p : Place) → PlaceFits z t p → n ≡ get_or words (word_of o x) 0 → Permits shows z x (Some o) t p → PlaceStands (get_or words header_at 0) t p → get_or words header_at 0 ≤ gone
@@ -187,11 +164,7 @@ gen_says shows z words o (Pstore y) n t (Some Leaving) fits is ok read low = inr
 gen_says shows z words o (Pstore y) n t p fits is ok read low = absurd ok
 gen_says shows z words o (Pload q) n t p fits is ok read low = let a = looked_gone z q n p ok.1 in inr (same_gen t p (looked z n p) a.0 a.1, other_word words o (Pload q) n (λ s e. omega arith))
 gen_says shows z words o (Pend q) n t p fits is ok read low = let a = prodded_gone z (Some o) q p ok.1 in inr (same_gen t p (prodded z p) a.0 a.1, other_word words o (Pend q) n (λ s e. omega arith))
-gen_says shows z words o (Pswap c) n t p fits is ok read low = inr (same_gen t p (cond (eqb n 0) None (Some Comparing)) (ap (gen_of None) ok.1) (by_case (eqb n 0)), other_word words o (Pswap c) n (λ s e. omega arith))
-  where
-    by_case : (b : Bool) → gen_of None (cond b None (Some Comparing)) ≡ gone
-    by_case true = refl
-    by_case false = refl
+gen_says shows z words o (Pswap c) n t p fits is ok read low = inr (same_gen t p (cond (eqb n 0) None (Some Comparing)) (ap (gen_of None) ok.1) (either_way (λ (u : Place). gen_of None u ≡ gone) (eqb n 0) None (Some Comparing) refl refl), other_word words o (Pswap c) n (λ s e. omega arith))
 
 -- the generation after the step
 pub gen_follows : (shows : ℕ → ℕ → Type 0) (z : About) (o : ℕ) (x : SigStep) (n : ℕ) (t : Option Slot) (p : Place) → PlaceFits z t p → Permits shows z x (Some o) t p → gen_of (slot_after x p t) (place_after z x n p) ≡ gen_then x (gen_of t p)
@@ -213,11 +186,7 @@ gen_follows shows z o (Pstore y) n t (Some Leaving) fits ok = same_gen t (Some L
 gen_follows shows z o (Pstore y) n t p fits ok = absurd ok
 gen_follows shows z o (Pload q) n t p fits ok = let a = looked_gone z q n p ok.1 in same_gen t p (looked z n p) a.0 a.1
 gen_follows shows z o (Pend q) n t p fits ok = let a = prodded_gone z (Some o) q p ok.1 in same_gen t p (prodded z p) a.0 a.1
-gen_follows shows z o (Pswap c) n t p fits ok = same_gen t p (cond (eqb n 0) None (Some Comparing)) (ap (gen_of None) ok.1) (by_case (eqb n 0))
-  where
-    by_case : (b : Bool) → gen_of None (cond b None (Some Comparing)) ≡ gone
-    by_case true = refl
-    by_case false = refl
+gen_follows shows z o (Pswap c) n t p fits ok = same_gen t p (cond (eqb n 0) None (Some Comparing)) (ap (gen_of None) ok.1) (either_way (λ (u : Place). gen_of None u ≡ gone) (eqb n 0) None (Some Comparing) refl refl)
 
 -- THE HEADER: one step alone changes it
 pub header_same : (shows : ℕ → ℕ → Type 0) (words : List ℕ) (o : ℕ) (x : SigStep) (n : ℕ) → n ≡ get_or words (word_of o x) 0 → (x ≡ Hadd → ⊥) → get_or (set words (word_of o x) (becomes x n)) header_at 0 ≡ get_or words header_at 0
@@ -247,11 +216,7 @@ header_up shows words o (Pswap c) n is wide = let a = header_same shows words o 
 -- WHAT THE SEAT HAS READ
 read_on : (n header : ℕ) (t : Option Slot) (p : Place) → MayRead p → n ≡ header → SlotStands header t → PlaceStands header t p → PlaceStands header t (headed n p)
 read_on n header t (Some Reading) ok is slot read = omega arith
-read_on n header None (Some (Heading g)) ok is slot read = by_case (eqb n g)
-  where
-    by_case : (b : Bool) → PlaceStands header None (cond b None (Some (Swapping n)))
-    by_case true = tt
-    by_case false = tt
+read_on n header None (Some (Heading g)) ok is slot read = either_way (λ (u : Place). PlaceStands header None u) (eqb n g) None (Some (Swapping n)) tt tt
 read_on n header (Some t) (Some (Heading g)) ok is slot read = by_case (eqb n g) refl
   where
     by_case : (b : Bool) → eqb n g ≡ b → PlaceStands header (Some t) (cond b None (Some (Swapping n)))
@@ -260,11 +225,7 @@ read_on n header (Some t) (Some (Heading g)) ok is slot read = by_case (eqb n g)
 read_on n header t p ok is slot read = absurd ok
 
 begun_on : (header : ℕ) (t : Option Slot) (c : Call) (n : ℕ) → PlaceStands header t (begun c n)
-begun_on header t (call.Emit j x) n = by_case (nat_lt n worn)
-  where
-    by_case : (b : Bool) → PlaceStands header t (cond b (Some (Posting j x 0)) None)
-    by_case true = tt
-    by_case false = tt
+begun_on header t (call.Emit j x) n = either_way (λ (u : Place). PlaceStands header t u) (nat_lt n worn) (Some (Posting j x 0)) None tt tt
 begun_on header t call.Join n = tt
 begun_on header t call.Leave n = tt
 begun_on header t call.Absorb n = tt
@@ -275,38 +236,22 @@ numbered_on header t (Some (Numbering j x)) ok = tt
 numbered_on header t p ok = absurd ok
 
 post_read : (z : About) (own : Option ℕ) (header q j : ℕ) (failed : Option ℕ) (t : Option Slot) (p : Place) → MayPost z own q j failed p → PlaceStands header t p → PlaceStands header t (posted z j failed p)
-post_read z own header q j None t (Some (Posting i x r)) ok read = by_case (eqb (r + 1) z.procs)
-  where
-    by_case : (b : Bool) → PlaceStands header t (cond b (Some (Numbering i x)) (Some (Posting i x (r + 1))))
-    by_case true = tt
-    by_case false = tt
+post_read z own header q j None t (Some (Posting i x r)) ok read = either_way (λ (u : Place). PlaceStands header t u) (eqb (r + 1) z.procs) (Some (Numbering i x)) (Some (Posting i x (r + 1))) tt tt
 post_read z own header q j None t (Some (Keeping h found failed done)) ok read = read
 post_read z own header q j (Some failed) t (Some (Taking h found)) ok read = read
 post_read z own header q j None t p ok read = absurd ok
 post_read z own header q j (Some failed) t p ok read = absurd ok
 
 told_on : (z : About) (header q : ℕ) (t : Option Slot) → PlaceStands header t (told z q)
-told_on z header q t = by_case (eqb (q + 1) z.procs)
-  where
-    by_case : (b : Bool) → PlaceStands header t (cond b None (Some (Telling (q + 1))))
-    by_case true = tt
-    by_case false = tt
+told_on z header q t = either_way (λ (u : Place). PlaceStands header t u) (eqb (q + 1) z.procs) None (Some (Telling (q + 1))) tt tt
 
 looked_on : (z : About) (header q n : ℕ) (t : Option Slot) (p : Place) → MayTell q p → PlaceStands header t (looked z n p)
-looked_on z header q n t (Some (Telling r)) ok = by_case (eqb n 0)
-  where
-    by_case : (b : Bool) → PlaceStands header t (cond b (told z r) (Some (Prodding r)))
-    by_case true = told_on z header r t
-    by_case false = tt
+looked_on z header q n t (Some (Telling r)) ok = either_way (λ (u : Place). PlaceStands header t u) (eqb n 0) (told z r) (Some (Prodding r)) (told_on z header r t) tt
 looked_on z header q n t p ok = absurd ok
 
 prod_read : (z : About) (own : Option ℕ) (header q : ℕ) (t : Option Slot) (p : Place) → MayProd own q p → PlaceStands header t p → PlaceStands header t (prodded z p)
 prod_read z own header q t (Some (Prodding r)) ok read = told_on z header r t
-prod_read z own header q t (Some (Reminding h found failed j)) ok read = by_case (nat_lt failed (2 ^ (j + 1)))
-  where
-    by_case : (b : Bool) → PlaceStands header t (cond b None (Some (Keeping h found failed (j + 1))))
-    by_case true = tt
-    by_case false = read
+prod_read z own header q t (Some (Reminding h found failed j)) ok read = either_way (λ (u : Place). PlaceStands header t u) (nat_lt failed (2 ^ (j + 1))) None (Some (Keeping h found failed (j + 1))) tt read
 prod_read z own header q t p ok read = absurd ok
 
 -- of the seat, under the header as it was. Its own word is the published generation
@@ -331,11 +276,7 @@ reads_on shows z words o (Pstore y) n t (Some Leaving) fits is ok mine slot read
 reads_on shows z words o (Pstore y) n t p fits is ok mine slot read = absurd ok
 reads_on shows z words o (Pload q) n t p fits is ok mine slot read = (slot, looked_on z _ q n t p ok.1)
 reads_on shows z words o (Pend q) n t p fits is ok mine slot read = (slot, prod_read z (Some o) _ q t p ok.1 read)
-reads_on shows z words o (Pswap c) n t p fits is ok mine slot read = (slot, by_case (eqb n 0))
-  where
-    by_case : (b : Bool) → PlaceStands (get_or words header_at 0) t (cond b None (Some Comparing))
-    by_case true = tt
-    by_case false = tt
+reads_on shows z words o (Pswap c) n t p fits is ok mine slot read = (slot, either_way (λ (u : Place). PlaceStands (get_or words header_at 0) t u) (eqb n 0) None (Some Comparing) tt tt)
 
 -- WHO EMITS
 abbrev EmitSays : ℕ → ℕ → ℕ → ℕ → Type 0
@@ -354,11 +295,7 @@ begun_emits (call.Published q) n = inl refl
 
 headed_emits : (n : ℕ) (p : Place) → MayRead p → is_emitting (headed n p) ≡ 0
 headed_emits n (Some Reading) ok = refl
-headed_emits n (Some (Heading g)) ok = by_case (eqb n g)
-  where
-    by_case : (b : Bool) → is_emitting (cond b None (Some (Swapping n))) ≡ 0
-    by_case true = refl
-    by_case false = refl
+headed_emits n (Some (Heading g)) ok = either_way (λ (u : Place). is_emitting u ≡ 0) (eqb n g) None (Some (Swapping n)) refl refl
 headed_emits n p ok = absurd ok
 
 numbered_emits : (p : Place) → MayNumber p → (is_emitting p ≡ 1) × (is_emitting (numbered p) ≡ 0)
@@ -382,27 +319,15 @@ opened_emits g (Some (Taking h found)) ok = refl
 opened_emits g p ok = absurd ok
 
 told_emits : (z : About) (q : ℕ) → is_emitting (told z q) ≡ 0
-told_emits z q = by_case (eqb (q + 1) z.procs)
-  where
-    by_case : (b : Bool) → is_emitting (cond b None (Some (Telling (q + 1)))) ≡ 0
-    by_case true = refl
-    by_case false = refl
+told_emits z q = either_way (λ (u : Place). is_emitting u ≡ 0) (eqb (q + 1) z.procs) None (Some (Telling (q + 1))) refl refl
 
 looked_emits : (z : About) (q n : ℕ) (p : Place) → MayTell q p → is_emitting (looked z n p) ≡ 0
-looked_emits z q n (Some (Telling r)) ok = by_case (eqb n 0)
-  where
-    by_case : (b : Bool) → is_emitting (cond b (told z r) (Some (Prodding r))) ≡ 0
-    by_case true = told_emits z r
-    by_case false = refl
+looked_emits z q n (Some (Telling r)) ok = either_way (λ (u : Place). is_emitting u ≡ 0) (eqb n 0) (told z r) (Some (Prodding r)) (told_emits z r) refl
 looked_emits z q n p ok = absurd ok
 
 prod_emits : (z : About) (own : Option ℕ) (q : ℕ) (p : Place) → MayProd own q p → is_emitting (prodded z p) ≡ 0
 prod_emits z own q (Some (Prodding r)) ok = told_emits z r
-prod_emits z own q (Some (Reminding h found failed j)) ok = by_case (nat_lt failed (2 ^ (j + 1)))
-  where
-    by_case : (b : Bool) → is_emitting (cond b None (Some (Keeping h found failed (j + 1)))) ≡ 0
-    by_case true = refl
-    by_case false = refl
+prod_emits z own q (Some (Reminding h found failed j)) ok = either_way (λ (u : Place). is_emitting u ≡ 0) (nat_lt failed (2 ^ (j + 1))) None (Some (Keeping h found failed (j + 1))) refl refl
 prod_emits z own q p ok = absurd ok
 
 none_le : (a b p u : ℕ) → a ≡ b → u ≡ 0 → EmitSays b a p u
@@ -423,11 +348,7 @@ emits_say shows z words o (Gload q None) n t p wide is ok = none_le _ _ _ _ (hea
 emits_say shows z words o (Pstore y) n t p wide is ok = none_le _ _ _ _ (header_same shows words o (Pstore y) n is (λ e. absurd (cc))) refl
 emits_say shows z words o (Pload q) n t p wide is ok = none_le _ _ _ _ (header_same shows words o (Pload q) n is (λ e. absurd (cc))) (looked_emits z q n p ok.1)
 emits_say shows z words o (Pend q) n t p wide is ok = none_le _ _ _ _ (header_same shows words o (Pend q) n is (λ e. absurd (cc))) (prod_emits z (Some o) q p ok.1)
-emits_say shows z words o (Pswap c) n t p wide is ok = none_le _ _ _ _ (header_same shows words o (Pswap c) n is (λ e. absurd (cc))) (by_case (eqb n 0))
-  where
-    by_case : (b : Bool) → is_emitting (cond b None (Some Comparing)) ≡ 0
-    by_case true = refl
-    by_case false = refl
+emits_say shows z words o (Pswap c) n t p wide is ok = none_le _ _ _ _ (header_same shows words o (Pswap c) n is (λ e. absurd (cc))) (either_way (λ (u : Place). is_emitting u ≡ 0) (eqb n 0) None (Some Comparing) refl refl)
 
 -- a published generation is below `gone`
 gen_low : (header : ℕ) (t : Option Slot) (p : Place) → SlotStands header t → PlaceStands header t p → header ≤ gone → gen_of t p ≤ gone

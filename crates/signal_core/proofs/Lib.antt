@@ -1,4 +1,5 @@
 pub mod Bits
+pub mod EitherWay
 pub mod Effects
 pub mod Moves
 pub mod BitsKept

@@ -19,13 +19,10 @@ use Rattle.signal_core.specs.PlacesFit.{PlaceFits, PlacesFit}
 use Rattle.signal_core.specs.EmissionsShow.{PlaceShows, EmissionsShow}
 use Rattle.signal_core.proofs.Effects.{turned}
 use Rattle.signal_core.proofs.Moves.{Move}
+use Rattle.signal_core.proofs.EitherWay.{either_way}
 
 begun_fits : (z : About) (t : Option Slot) (c : Call) (n : ℕ) → 0 < z.procs → PlaceFits z t (begun c n)
-begun_fits z t (call.Emit j x) n some = by_case (nat_lt n worn)
-  where
-    by_case : (b : Bool) → PlaceFits z t (cond b (Some (Posting j x 0)) None)
-    by_case true = some
-    by_case false = tt
+begun_fits z t (call.Emit j x) n some = either_way (λ (u : Place). PlaceFits z t u) (nat_lt n worn) (Some (Posting j x 0)) None some tt
 begun_fits z t call.Join n some = tt
 begun_fits z t call.Leave n some = tt
 begun_fits z t call.Absorb n some = tt
@@ -33,11 +30,7 @@ begun_fits z t (call.Published q) n some = tt
 
 headed_fits : (z : About) (t : Option Slot) (n : ℕ) (p : Place) → MayRead p → PlaceFits z t p → PlaceFits z t (headed n p)
 headed_fits z t n (Some Reading) ok fits = fits
-headed_fits z t n (Some (Heading g)) ok fits = by_case (eqb n g)
-  where
-    by_case : (b : Bool) → PlaceFits z t (cond b None (Some (Swapping n)))
-    by_case true = tt
-    by_case false = fits
+headed_fits z t n (Some (Heading g)) ok fits = either_way (λ (u : Place). PlaceFits z t u) (eqb n g) None (Some (Swapping n)) tt fits
 headed_fits z t n p ok fits = absurd ok
 
 numbered_fits : (z : About) (t : Option Slot) (p : Place) → 0 < z.procs → MayNumber p → PlaceFits z t (numbered p)
@@ -66,20 +59,12 @@ told_fits z q t below = by_case (eqb (q + 1) z.procs) refl
     by_case false e = next_below q z.procs below e
 
 looked_fits : (z : About) (q n : ℕ) (t : Option Slot) (p : Place) → MayTell q p → PlaceFits z t p → PlaceFits z t (looked z n p)
-looked_fits z q n t (Some (Telling r)) ok fits = by_case (eqb n 0)
-  where
-    by_case : (b : Bool) → PlaceFits z t (cond b (told z r) (Some (Prodding r)))
-    by_case true = told_fits z r t fits
-    by_case false = fits
+looked_fits z q n t (Some (Telling r)) ok fits = either_way (λ (u : Place). PlaceFits z t u) (eqb n 0) (told z r) (Some (Prodding r)) (told_fits z r t fits) fits
 looked_fits z q n t p ok fits = absurd ok
 
 prodded_fits : (z : About) (own : Option ℕ) (q : ℕ) (t : Option Slot) (p : Place) → MayProd own q p → PlaceFits z t p → PlaceFits z t (prodded z p)
 prodded_fits z own q t (Some (Prodding r)) ok fits = told_fits z r t fits
-prodded_fits z own q t (Some (Reminding h found failed j)) ok fits = by_case (nat_lt failed (2 ^ (j + 1)))
-  where
-    by_case : (b : Bool) → PlaceFits z t (cond b None (Some (Keeping h found failed (j + 1))))
-    by_case true = tt
-    by_case false = fits
+prodded_fits z own q t (Some (Reminding h found failed j)) ok fits = either_way (λ (u : Place). PlaceFits z t u) (nat_lt failed (2 ^ (j + 1))) None (Some (Keeping h found failed (j + 1))) tt fits
 prodded_fits z own q t p ok fits = absurd ok
 
 pub place_fits : (shows : ℕ → ℕ → Type 0) (z : About) (x : SigStep) (n : ℕ) (own : Option ℕ) (t : Option Slot) (p : Place) → 0 < z.procs → Permits shows z x own t p → PlaceFits z t p → PlaceFits z (slot_after x p t) (place_after z x n p)
@@ -100,19 +85,11 @@ place_fits shows z (Gload q None) n own t p some ok fits = absurd (let e : p ≡
 place_fits shows z (Pstore y) n own t p some ok fits = tt
 place_fits shows z (Pload q) n own t p some ok fits = looked_fits z q n t p ok.1 fits
 place_fits shows z (Pend q) n own t p some ok fits = prodded_fits z own q t p ok.1 fits
-place_fits shows z (Pswap c) n own t p some ok fits = by_case (eqb n 0)
-  where
-    by_case : (b : Bool) → PlaceFits z t (cond b None (Some Comparing))
-    by_case true = tt
-    by_case false = ok.2
+place_fits shows z (Pswap c) n own t p some ok fits = either_way (λ (u : Place). PlaceFits z t u) (eqb n 0) None (Some Comparing) tt (ok.2)
 
 -- WHAT IS SHOWN
 begun_shows : (shows : ℕ → ℕ → Type 0) (c : Call) (n : ℕ) → BeginsLoad shows c → PlaceShows shows (begun c n)
-begun_shows shows (call.Emit j x) n ok = by_case (nat_lt n worn)
-  where
-    by_case : (b : Bool) → PlaceShows shows (cond b (Some (Posting j x 0)) None)
-    by_case true = ok
-    by_case false = tt
+begun_shows shows (call.Emit j x) n ok = either_way (λ (u : Place). PlaceShows shows u) (nat_lt n worn) (Some (Posting j x 0)) None ok tt
 begun_shows shows call.Join n ok = absurd ok
 begun_shows shows call.Leave n ok = absurd ok
 begun_shows shows call.Absorb n ok = absurd ok
@@ -120,11 +97,7 @@ begun_shows shows (call.Published q) n ok = absurd ok
 
 headed_shows : (shows : ℕ → ℕ → Type 0) (n : ℕ) (p : Place) → MayRead p → PlaceShows shows (headed n p)
 headed_shows shows n (Some Reading) ok = tt
-headed_shows shows n (Some (Heading g)) ok = by_case (eqb n g)
-  where
-    by_case : (b : Bool) → PlaceShows shows (cond b None (Some (Swapping n)))
-    by_case true = tt
-    by_case false = tt
+headed_shows shows n (Some (Heading g)) ok = either_way (λ (u : Place). PlaceShows shows u) (eqb n g) None (Some (Swapping n)) tt tt
 headed_shows shows n p ok = absurd ok
 
 numbered_shows : (shows : ℕ → ℕ → Type 0) (p : Place) → MayNumber p → PlaceShows shows (numbered p)
@@ -132,38 +105,22 @@ numbered_shows shows (Some (Numbering j x)) ok = tt
 numbered_shows shows p ok = absurd ok
 
 posted_shows : (shows : ℕ → ℕ → Type 0) (z : About) (own : Option ℕ) (q j : ℕ) (failed : Option ℕ) (p : Place) → MayPost z own q j failed p → PlaceShows shows p → PlaceShows shows (posted z j failed p)
-posted_shows shows z own q j None (Some (Posting i x r)) ok is = by_case (eqb (r + 1) z.procs)
-  where
-    by_case : (b : Bool) → PlaceShows shows (cond b (Some (Numbering i x)) (Some (Posting i x (r + 1))))
-    by_case true = is
-    by_case false = is
+posted_shows shows z own q j None (Some (Posting i x r)) ok is = either_way (λ (u : Place). PlaceShows shows u) (eqb (r + 1) z.procs) (Some (Numbering i x)) (Some (Posting i x (r + 1))) is is
 posted_shows shows z own q j None (Some (Keeping h found failed done)) ok is = tt
 posted_shows shows z own q j (Some failed) (Some (Taking h found)) ok is = tt
 posted_shows shows z own q j None p ok is = absurd ok
 posted_shows shows z own q j (Some failed) p ok is = absurd ok
 
 told_shows : (shows : ℕ → ℕ → Type 0) (z : About) (q : ℕ) → PlaceShows shows (told z q)
-told_shows shows z q = by_case (eqb (q + 1) z.procs)
-  where
-    by_case : (b : Bool) → PlaceShows shows (cond b None (Some (Telling (q + 1))))
-    by_case true = tt
-    by_case false = tt
+told_shows shows z q = either_way (λ (u : Place). PlaceShows shows u) (eqb (q + 1) z.procs) None (Some (Telling (q + 1))) tt tt
 
 looked_shows : (shows : ℕ → ℕ → Type 0) (z : About) (q n : ℕ) (p : Place) → MayTell q p → PlaceShows shows (looked z n p)
-looked_shows shows z q n (Some (Telling r)) ok = by_case (eqb n 0)
-  where
-    by_case : (b : Bool) → PlaceShows shows (cond b (told z r) (Some (Prodding r)))
-    by_case true = told_shows shows z r
-    by_case false = tt
+looked_shows shows z q n (Some (Telling r)) ok = either_way (λ (u : Place). PlaceShows shows u) (eqb n 0) (told z r) (Some (Prodding r)) (told_shows shows z r) tt
 looked_shows shows z q n p ok = absurd ok
 
 prodded_shows : (shows : ℕ → ℕ → Type 0) (z : About) (own : Option ℕ) (q : ℕ) (p : Place) → MayProd own q p → PlaceShows shows (prodded z p)
 prodded_shows shows z own q (Some (Prodding r)) ok = told_shows shows z r
-prodded_shows shows z own q (Some (Reminding h found failed j)) ok = by_case (nat_lt failed (2 ^ (j + 1)))
-  where
-    by_case : (b : Bool) → PlaceShows shows (cond b None (Some (Keeping h found failed (j + 1))))
-    by_case true = tt
-    by_case false = tt
+prodded_shows shows z own q (Some (Reminding h found failed j)) ok = either_way (λ (u : Place). PlaceShows shows u) (nat_lt failed (2 ^ (j + 1))) None (Some (Keeping h found failed (j + 1))) tt tt
 prodded_shows shows z own q p ok = absurd ok
 
 pub place_shows : (shows : ℕ → ℕ → Type 0) (z : About) (x : SigStep) (n : ℕ) (own : Option ℕ) (t : Option Slot) (p : Place) → Permits shows z x own t p → PlaceShows shows p → PlaceShows shows (place_after z x n p)
@@ -183,11 +140,7 @@ place_shows shows z (Gload q None) n own t p ok is = subst (λ (u : Place). Plac
 place_shows shows z (Pstore y) n own t p ok is = tt
 place_shows shows z (Pload q) n own t p ok is = looked_shows shows z q n p ok.1
 place_shows shows z (Pend q) n own t p ok is = prodded_shows shows z own q p ok.1
-place_shows shows z (Pswap c) n own t p ok is = by_case (eqb n 0)
-  where
-    by_case : (b : Bool) → PlaceShows shows (cond b None (Some Comparing))
-    by_case true = tt
-    by_case false = tt
+place_shows shows z (Pswap c) n own t p ok is = either_way (λ (u : Place). PlaceShows shows u) (eqb n 0) None (Some Comparing) tt tt
 
 abbrev AllShow : (ℕ → ℕ → Type 0) → List Emission → Type 0
 AllShow shows es = (i : ℕ) (e : Emission) → get_elem? es i ≡ maybe.some e → (e.kind < 32) × shows e.kind e.number

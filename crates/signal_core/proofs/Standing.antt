@@ -22,6 +22,7 @@ use Rattle.signal_core.specs.Seating.{Stance}
 use Rattle.signal_core.specs.Places.{swapped_at}
 use Rattle.signal_core.specs.PlacesFit.{PlaceFits}
 use Rattle.signal_core.proofs.Bits.{mask_else, mask_kept, mask_has}
+use Rattle.signal_core.proofs.EitherWay.{either_way}
 
 -- 1 where the kind was found and is still to be taken or put back
 abbrev pub waits : ℕ → Place → ℕ
@@ -221,11 +222,7 @@ plain_due : (k number : ℕ) (t : Option Slot) (p u : Place) → swapped_at u �
 plain_due k number t p u none old r e more = (λ h is. absent _ h none is, (old r e more).1)
 
 post_due : (z : About) (own : Option ℕ) (k number q j : ℕ) (failed : Option ℕ) (t : Option Slot) (p : Place) → MayPost z own q j failed p → (1 ≤ taken_by (Mor q j failed) p k → ⊥) → OwnDue k number t p → OwnDue k number t (posted z j failed p)
-post_due z own k number q j None t (Some (Posting i x r)) ok left old = plain_due k number t (Some (Posting i x r)) (posted z j None (Some (Posting i x r))) (by_case (eqb (r + 1) z.procs)) old
-  where
-    by_case : (b : Bool) → swapped_at (cond b (Some (Numbering i x)) (Some (Posting i x (r + 1)))) ≡ None
-    by_case true = refl
-    by_case false = refl
+post_due z own k number q j None t (Some (Posting i x r)) ok left old = plain_due k number t (Some (Posting i x r)) (posted z j None (Some (Posting i x r))) (either_way (λ (u : Place). swapped_at u ≡ None) (eqb (r + 1) z.procs) (Some (Numbering i x)) (Some (Posting i x (r + 1))) refl refl) old
 post_due z own k number q j None t (Some (Keeping h found failed done)) ok left old = old
 post_due z own k number q j (Some failed) t (Some (Taking h found)) ok left old = λ r e more. (
   λ g is up. let a = (old r e more).0 g is up in ⊎_elim
@@ -238,24 +235,12 @@ post_due z own k number q j None t p ok left old = absurd ok
 post_due z own k number q j (Some failed) t p ok left old = absurd ok
 
 prod_due : (z : About) (own : Option ℕ) (k number q : ℕ) (t : Option Slot) (p : Place) → MayProd own q p → OwnDue k number t p → OwnDue k number t (prodded z p)
-prod_due z own k number q t (Some (Prodding r)) ok old = plain_due k number t (Some (Prodding r)) (told z r) (by_case (eqb (r + 1) z.procs)) old
-  where
-    by_case : (b : Bool) → swapped_at (cond b None (Some (Telling (r + 1)))) ≡ None
-    by_case true = refl
-    by_case false = refl
-prod_due z own k number q t (Some (Reminding h found failed j)) ok old = by_case (nat_lt failed (2 ^ (j + 1)))
-  where
-    by_case : (b : Bool) → OwnDue k number t (cond b None (Some (Keeping h found failed (j + 1))))
-    by_case true = plain_due k number t (Some (Reminding h found failed j)) None refl old
-    by_case false = old
+prod_due z own k number q t (Some (Prodding r)) ok old = plain_due k number t (Some (Prodding r)) (told z r) (either_way (λ (u : Place). swapped_at u ≡ None) (eqb (r + 1) z.procs) None (Some (Telling (r + 1))) refl refl) old
+prod_due z own k number q t (Some (Reminding h found failed j)) ok old = either_way (λ (u : Place). OwnDue k number t u) (nat_lt failed (2 ^ (j + 1))) None (Some (Keeping h found failed (j + 1))) (plain_due k number t (Some (Reminding h found failed j)) None refl old) old
 prod_due z own k number q t p ok old = absurd ok
 
 begun_plain : (c : Call) (n : ℕ) → swapped_at (Rattle.signal_core.specs.Machine.begun c n) ≡ None
-begun_plain (call.Emit j x) n = by_case (nat_lt n Rattle.signal_core.specs.Words.worn)
-  where
-    by_case : (b : Bool) → swapped_at (cond b (Some (Posting j x 0)) None) ≡ None
-    by_case true = refl
-    by_case false = refl
+begun_plain (call.Emit j x) n = either_way (λ (u : Place). swapped_at u ≡ None) (nat_lt n Rattle.signal_core.specs.Words.worn) (Some (Posting j x 0)) None refl refl
 begun_plain call.Join n = refl
 begun_plain call.Leave n = refl
 begun_plain call.Absorb n = refl
@@ -263,11 +248,7 @@ begun_plain (call.Published q) n = refl
 
 headed_plain : (n : ℕ) (p : Place) → MayRead p → swapped_at (headed n p) ≡ None
 headed_plain n (Some Reading) ok = refl
-headed_plain n (Some (Heading g)) ok = by_case (eqb n g)
-  where
-    by_case : (b : Bool) → swapped_at (cond b None (Some (Swapping n))) ≡ None
-    by_case true = refl
-    by_case false = refl
+headed_plain n (Some (Heading g)) ok = either_way (λ (u : Place). swapped_at u ≡ None) (eqb n g) None (Some (Swapping n)) refl refl
 headed_plain n p ok = absurd ok
 
 numbered_plain : (p : Place) → MayNumber p → swapped_at (Rattle.signal_core.specs.Machine.numbered p) ≡ None
@@ -316,8 +297,4 @@ own_due shows z words o (Pstore y) n k number t (Some Leaving) is fits ok left s
 own_due shows z words o (Pstore y) n k number t p is fits ok left some old = absurd ok
 own_due shows z words o (Pload q) n k number t p is fits ok left some old = plain_due k number t p (looked z n p) (looked_plain z q n p ok.1) old
 own_due shows z words o (Pend q) n k number t p is fits ok left some old = prod_due z (Some o) k number q t p ok.1 old
-own_due shows z words o (Pswap c) n k number t p is fits ok left some old = plain_due k number t p (cond (eqb n 0) None (Some Comparing)) (by_case (eqb n 0)) old
-  where
-    by_case : (b : Bool) → swapped_at (cond b None (Some Comparing)) ≡ None
-    by_case true = refl
-    by_case false = refl
+own_due shows z words o (Pswap c) n k number t p is fits ok left some old = plain_due k number t p (cond (eqb n 0) None (Some Comparing)) (either_way (λ (u : Place). swapped_at u ≡ None) (eqb n 0) None (Some Comparing) refl refl) old
