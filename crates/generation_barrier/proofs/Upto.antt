@@ -35,6 +35,10 @@ up_to_swap z v0 v1 v2 v3 v4 n p g h found e1 some e2 e3 apart e4 =
     let f3 : v3 ≡ record v0 { place = Some (Swapping h); steps = v0.steps ++ ((a ++ b) ++ c) } = e3 ∙ (ap (λ (u : SigView). next z (Hload None) u h) f2 ∙ (λ i. record v0 { place = not_same h g apart i; steps = append_assoc v0.steps (a ++ b) c i })) in
     e4 ∙ (ap (λ (u : SigView). next z (Mswap None) u found) f3 ∙ (λ i. record v0 { place = Some (Taking h found); steps = append_assoc v0.steps ((a ++ b) ++ c) d i }))
 
+-- the slot is as before the call
+pub slot_stays : (z : About) (v v1 v2 : SigView) (n p g : ℕ) → v1 ≡ next z (Pswap (Some call.Absorb)) v n → v2 ≡ next z (Gload p None) v1 g → (v1.slot ≡ v.slot) × (v2.slot ≡ v.slot)
+slot_stays z v v1 v2 n p g e1 e2 = let once : v1.slot ≡ v.slot = ap (λ (u : SigView). u.slot) e1 in let again : v2.slot ≡ v1.slot = ap (λ (u : SigView). u.slot) e2 in (once, again ∙ once)
+
 -- the view after the header is stored
 pub published_view : (z : About) (v w y : SigView) (n p g h found was : ℕ) → w ≡ record v { place = Some (Taking h found); steps = v.steps ++ upto n p g h found } → y ≡ next z (Gstore h None) w was
     → (y.slot ≡ Rattle.signal_core.specs.Machine.publishes h v.slot) × (y ≡ went v (upto n p g h found ++ made (Gstore h None) was ∷ []) y.slot (v.absorbed ++ kinds_below 32 (takes found 0)))

@@ -1,10 +1,14 @@
-ghost use Rattle.std.specs.Prelude.{◌≡◌};
+ghost use Rattle.std.specs.Prelude.{◌≡◌, ◌<◌, ◌≤◌, ◌^◌, None};
+ghost use Rattle.signal_core.specs.Machine.{IsJoined};
 
 use super::*;
 use proc_signal::{emit, join_slot};
-use signal_core::{Call, Kinds, SigSeen, SigStep, SigTable};
+use proc_table::ProcNo;
+use signal_core::{Call, Kinds, SigSeat, SigSeen, SigStep, SigTable};
 use std::process::Abort;
+use std::sync::Wait;
 use std::test::Fail;
+use std::thread::{Threads, join};
 
 struct Anything;
 
@@ -153,5 +157,91 @@ fn a_worn_header_refuses_emissions(rt: HostRuntime) -> Result<(), Fail> {
     };
     assert_eq!(rt; none.drawn, 1);
     table.close(zero);
+    Ok(())
+}
+
+// Absorbs until it has published the generation, and answers how often it published, and how many
+// kinds it took.
+fn absorb_until<R: Wait>(rt: &R, table: &Signals, mut seat: SigSeat, last: u64) -> (u32, u32)
+    requires table { seat.table_id ≡ table.now.table_id }
+    requires place { (seat.view.place ≡ None) × IsJoined seat.view.slot }
+{
+    let mut takes = Counter {
+        answer: true,
+        asked: 0,
+    };
+    let mut published: u32 = 0;
+    for _ in rt.forever() {
+        if let Absorb::Published { generation } = absorb(table, &mut seat, &mut takes) {
+            published = published.saturating_add(1);
+            if generation >= last {
+                break;
+            }
+        }
+    }
+    (published, takes.asked)
+}
+
+// Reads the generation of a backend until it is at least this one.
+fn look_until<R: Wait>(rt: &R, table: &Signals, seat: &mut SigSeat, of: ProcNo, generation: u64)
+    requires table { (seat.old.table_id ≡ table.now.table_id) × (of < table.now.procs) }
+    requires place { seat.old.view.place ≡ None }
+    ensures { (seat.new.table_id ≡ seat.old.table_id) × (seat.new.view.place ≡ None) }
+{
+    for _ in rt.forever() {
+        let reads = SigStep::Gload(of, Some(Call::Published(of)));
+        if table.step(seat, reads).old >= generation {
+            break;
+        }
+    }
+}
+
+// Emits four kinds in turn, each once the backend has published the one before.
+fn emit_in_turn<R: Wait>(rt: &R, table: &Signals, mut seat: SigSeat, of: ProcNo) -> bool
+    requires table { (seat.table_id ≡ table.now.table_id) × (of < table.now.procs) }
+    requires place { seat.view.place ≡ None }
+{
+    for turn in 0..1000u32 {
+        let Ok(generation) = emit(table, &mut seat, turn % 4, 7) else {
+            return false;
+        };
+        look_until(rt, table, &mut seat, of, generation);
+    }
+    true
+}
+
+fn both<R: Threads + Wait + Sync>(
+    rt: &R,
+    table: &Signals,
+    zero: SigSeat,
+    one: SigSeat,
+    of: ProcNo,
+) -> (bool, (u32, u32))
+    requires table { (zero.table_id ≡ table.now.table_id) × (one.table_id ≡ table.now.table_id) × (of < table.now.procs) }
+    requires place { (zero.view.place ≡ None) × (one.view.place ≡ None) × IsJoined one.view.slot }
+{
+    join(
+        rt,
+        move || -> bool
+            requires { (zero.table_id ≡ table.now.table_id) × (of < table.now.procs) × (zero.view.place ≡ None) }
+        { emit_in_turn(rt, table, zero, of) },
+        move || -> (u32, u32)
+            requires { (one.table_id ≡ table.now.table_id) × (one.view.place ≡ None) × IsJoined one.view.slot }
+        { absorb_until(rt, table, one, 1000) },
+    )
+}
+
+#[test]
+fn each_emission_is_absorbed_once_across_threads(rt: HostRuntime) -> Result<(), Fail> {
+    let Ok((table, mut zero)) = Signals::new(rt.alloc(), 2, 0) else {
+        panic!(rt; "no memory")
+    };
+    let Ok(mut one) = table.seat(&mut zero) else {
+        panic!(rt; "no number")
+    };
+    let of = table.proc_of(&one);
+    join_slot(&table, &mut one);
+    let (emitted, (published, taken)) = both(&rt, &table, zero, one, of);
+    assert!(rt; emitted && published == 1000 && taken == 1000);
     Ok(())
 }
