@@ -1,6 +1,5 @@
 //! Absorbing.
-ghost use Rattle.std.specs.Prelude.{◌≡◌, ◌<◌, ◌≤◌, ◌+◌, ◌^◌, ◌++◌, None, Some, List, ℕ};
-ghost use Rattle.std.specs.Int.{bit_at};
+ghost use Rattle.std.specs.Prelude.{◌≡◌, ◌<◌, ◌+◌, ◌^◌, ◌++◌, None, Some, List, ℕ};
 ghost use Rattle.signal_core.specs.declared.view.Frame.TheVariants.{Taking};
 ghost use Rattle.signal_core.specs.declared.view.Made.{Made};
 ghost use Rattle.signal_core.specs.Machine.{IsJoined, IsPart, takes, kinds_below};

@@ -6,7 +6,7 @@ ghost use Rattle.std.specs.Prelude.{◌≡◌, ◌<◌, ℕ, None, Some, List, M
 ghost use Rattle.signal_core.specs.declared.view.Frame.TheVariants.{Posting, Telling};
 ghost use Rattle.signal_core.specs.declared.view.Made.{Made};
 ghost use Rattle.signal_core.specs.Seats.{about_of};
-ghost use Rattle.proc_signal.specs.Signals.{went, joined_at, IsJoinedSlot, Posted, Told, IsEmitted, IsWorn, posting, telling};
+ghost use Rattle.proc_signal.specs.Signals.{went, joined_at, IsJoinedSlot, Posted, Told, IsEmitted, IsWorn, posting};
 
 use proc_table::{ProcNo, Worn};
 use signal_core::{Call, Kinds, SigSeat, SigStep, SigTable};

@@ -1,10 +1,9 @@
 //! A table and the calls on it.
-ghost use Rattle.std.specs.Prelude.{◌≡◌, ◌<◌, ◌≤◌, ◌+◌, ◌^◌, Some, None, [], IfOk, MatchResult};
+ghost use Rattle.std.specs.Prelude.{◌≡◌, ◌<◌, ◌≤◌, ◌+◌, ◌^◌, Some, None, IfOk, MatchResult};
 ghost use Rattle.std.specs.Slots.{IsFull};
 ghost use Rattle.signal_core.specs.Ops.{op_gives};
-ghost use Rattle.signal_core.specs.GenerationsStand.{IsPublished};
-ghost use Rattle.signal_core.specs.Machine.{word_of, next, Allowed};
-ghost use Rattle.signal_core.specs.Seating.{fresh, stays, took_in, after_draw};
+ghost use Rattle.signal_core.specs.Machine.{next, Allowed};
+ghost use Rattle.signal_core.specs.Seating.{fresh, took_in, after_draw};
 ghost use Rattle.signal_core.specs.Told.{Tells, Turns};
 ghost use Rattle.signal_core.specs.Promises.{EmitsWhatItAbsorbed};
 ghost use Rattle.signal_core.specs.Seats.{about_of};
