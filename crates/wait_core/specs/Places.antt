@@ -1,12 +1,9 @@
 -- What a place says of its seat.
-use Rattle.std.specs.Prelude.{ℕ, ◌+◌, ◌==◌, nat_lt, Bool, true, false, cond, List, [], ◌∷◌, Option, None, Some, ⊤}
-use mathlib.Core.Option as maybe
-use lib.ListN.{get_elem?}
-use Rattle.std.specs.Prelude.{◌≡◌}
+use Rattle.std.specs.Prelude.{ℕ, ◌+◌, ◌==◌, nat_lt, Bool, true, false, cond, List, Option, None, Some}
 use Rattle.wait_core.specs.declared.step.Until.TheVariants.{LatchOrShutdown}
 use Rattle.wait_core.specs.declared.view.Frame.{Frame}
 use Rattle.wait_core.specs.declared.view.Frame.TheVariants.{Telling, Waking, Rechecking, CheckingShutdown, Looking, Asleep, Retracting, LeavingSet, LeavingShutdown, Stopping}
-use Rattle.wait_core.specs.Machine.{Place, top, bit}
+use Rattle.wait_core.specs.Machine.{top, bit}
 use Rattle.wait_core.specs.Seating.{Standing}
 use Rattle.seat_roster.specs.Totals.{total}
 
@@ -71,21 +68,3 @@ backend_count p f seats = total (of_backend p f) seats
 
 abbrev pub count_of : (Option Frame → Bool) → List Standing → ℕ
 count_of f seats = total (of_any f) seats
-
--- the frame's program has others inside. None has yet
-abbrev pub IsHost : Frame → Type 0
-IsHost f = ⊥
-
-abbrev pub AllHost : Place → Type 0
-AllHost [] = ⊤
-AllHost (f ∷ p) = IsHost f × AllHost p
-
--- each frame but the innermost is of a program that has others inside
-abbrev pub IsNested : Place → Type 0
-IsNested [] = ⊤
-IsNested (f ∷ p) = AllHost p
-
--- each place is nested, and a seat without a number is in no call
-pub record PlacesFit (seats : List Standing) : Type 0 where
-  pub nested : (id : ℕ) (v : Standing) → get_elem? seats id ≡ maybe.some v → IsNested v.place
-  pub unnumbered : (id : ℕ) (v : Standing) → get_elem? seats id ≡ maybe.some v → v.own ≡ None → v.place ≡ []

@@ -1,5 +1,5 @@
 -- What of a seat's view each part of the rule sees, and how views change where seats are drawn and joined.
-use Rattle.std.specs.Prelude.{◌+◌, ◌++◌, List, [], ◌∷◌, ℕ, Option, None, Some}
+use Rattle.std.specs.Prelude.{◌+◌, ◌++◌, false, List, [], ◌∷◌, ℕ, Option, None, Some}
 use Rattle.wait_core.specs.declared.view.Inherited.{Inherited}
 use Rattle.wait_core.specs.declared.view.Made.{Made}
 use Rattle.wait_core.specs.declared.view.PartyView.{PartyView}
@@ -7,9 +7,10 @@ use Rattle.wait_core.specs.declared.view.WaitView.{WaitView}
 use Rattle.seat_roster.specs.Roster.{Numbers, listed}
 use Rattle.wait_core.specs.Machine.{Place, number_of}
 
--- a seat's number, and where it stands
+-- a seat's number, its target, and where it stands
 pub record Standing : Type 0 where
   pub own : Option ℕ
+  pub target : Option ℕ
   pub place : Place
 
 -- a seat's number, the steps that it made, and those of the seats that were joined into it
@@ -28,7 +29,7 @@ module _ {C : Type 0} where
   numbers_of v = record { own = v.own; pending = v.pending; taken = v.taken; drawn = v.drawn }
 
   abbrev pub standing_of : WaitView C → Standing
-  standing_of v = record { own = v.own; place = v.place }
+  standing_of v = record { own = v.own; target = v.target; place = v.place }
 
   abbrev pub doings_of : WaitView C → Doings
   doings_of v = record { own = v.own; steps = v.steps; inherited = v.inherited }
@@ -38,7 +39,7 @@ module _ {C : Type 0} where
 
   -- the view of a seat with this number, or with none, which did nothing yet
   abbrev pub fresh : C → Option ℕ → WaitView C
-  fresh c own = record { own = own; pending = None; taken = []; drawn = 0; place = []; steps = []; inherited = []; client = c; attached = []; elections = [] }
+  fresh c own = record { own = own; pending = None; taken = []; drawn = 0; place = []; steps = []; inherited = []; client = c; attached = []; elections = []; target = None; heeds = false }
 
   -- the seat after a step of its client
   abbrev pub client_moved : WaitView C → C → WaitView C

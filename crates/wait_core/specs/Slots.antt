@@ -1,7 +1,5 @@
 -- What the slots keep: each condition's list, and then each barrier's record.
 use Rattle.std.specs.Prelude.{◌≡◌, ℕ, ◌+◌, List, [], ◌∷◌, length, ⊤}
-use mathlib.Core.Option as maybe
-use lib.ListN.{get_elem?}
 use Rattle.wait_core.specs.declared.view.Kept.{Kept}
 use Rattle.wait_core.specs.declared.view.Record.{Record}
 use Rattle.wait_core.specs.declared.view.Size.{Size}
@@ -23,7 +21,3 @@ AllAsOpened phase (k ∷ slots) = IsAsOpened phase k × AllAsOpened phase slots
 pub record OpeningSlots (z : Size) (phase : ℕ) (slots : List Kept) : Type 0 where
   pub count : length slots ≡ z.cvs + z.bars
   pub each : AllAsOpened phase slots
-
--- each slot that is at home is as it opened. Until conditions and barriers move, no step takes one out
-abbrev pub SlotsStand : ℕ → List (maybe.Option Kept) → Type 0
-SlotsStand phase homes = (k : ℕ) (y : Kept) → get_elem? homes k ≡ maybe.some (maybe.some y) → IsAsOpened phase y

@@ -1,5 +1,7 @@
 -- The words of a table. First the number that is drawn next; then three words of each backend: its latch, whether it may sleep, and its wake byte; then the shutdown word, the spin words of conditions and of barriers, and the client's words.
 use Rattle.std.specs.Prelude.{ℕ, zero, suc, ◌+◌, ◌*◌, List, [], ◌∷◌, ◌++◌, drop, replicate, slice_set}
+use Rattle.wait_core.specs.declared.step.Spot.{Spot}
+use Rattle.wait_core.specs.declared.step.Spot.TheVariants.{Cv, Bar}
 use Rattle.wait_core.specs.declared.view.Size.{Size}
 
 abbrev pub set_at : ℕ → ℕ
@@ -14,11 +16,13 @@ byte_at p = 3 * p + 3
 abbrev pub shut_at : Size → ℕ
 shut_at z = 3 * z.procs + 1
 
-abbrev pub cv_at : Size → ℕ → ℕ
-cv_at z c = 3 * z.procs + 2 + c
+-- what a spin word guards lies in the slot of its number: first the conditions' lists, then the barriers' records
+abbrev pub slot_of : Size → Spot → ℕ
+slot_of z (Cv c) = c
+slot_of z (Bar b) = z.cvs + b
 
-abbrev pub bar_at : Size → ℕ → ℕ
-bar_at z b = 3 * z.procs + 2 + z.cvs + b
+abbrev pub spin_at : Size → ℕ → ℕ
+spin_at z x = 3 * z.procs + 2 + x
 
 abbrev pub client_base : Size → ℕ
 client_base z = 3 * z.procs + 2 + z.cvs + z.bars

@@ -16,6 +16,6 @@ mod view;
 pub use closed::WaitClosed;
 pub use party::{ClientOp, NoParty, Party};
 pub use seat::WaitSeat;
-pub use step::{Call, Until, WaitSeen, WaitStep};
+pub use step::{Call, Spot, Until, WaitSeen, WaitStep};
 pub use table::WaitTable;
-pub use view::{Frame, Inherited, Kept, Made, PartyView, Record, Size, WaitView};
+pub use view::{Frame, Inherited, Job, Kept, Made, PartyView, Record, Size, WaitView};

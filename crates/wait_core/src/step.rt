@@ -4,7 +4,14 @@ ghost use Rattle.wait_core.specs.Ops.{op_gives};
 ghost use Rattle.wait_core.specs.Machine.{becomes, writes};
 
 use crate::party::ClientOp;
-use proc_table::ProcNo;
+use proc_table::{BarNo, CvNo, ProcNo};
+
+/// A spin word: that of a condition's list, or that of a barrier's record.
+#[derive(Debug, Clone, Copy, PartialEq, Eq)]
+pub enum Spot {
+    Cv(CvNo),
+    Bar(BarNo),
+}
 
 /// What ends a wait on the own latch.
 #[derive(Debug, Clone, Copy, PartialEq, Eq)]
@@ -28,6 +35,17 @@ pub enum Call {
     Shut,
     /// Reads the shutdown word.
     IsShut,
+    /// Leaves the list of the own target (`ConditionVariableCancelSleep`).
+    Cancel,
+    /// Makes the condition the own target, and goes to the end of its list
+    /// (`ConditionVariablePrepareToSleep`).
+    Prepare(CvNo),
+    /// Sleeps until the condition is signalled (`ConditionVariableSleep`).
+    Sleep(CvNo),
+    /// Wakes the first on the list (`ConditionVariableSignal`).
+    Signal(CvNo),
+    /// Wakes all that are on the list (`ConditionVariableBroadcast`).
+    Broadcast(CvNo),
 }
 
 /// One step on one word. A kind that can be the first step of a call carries the call that it
@@ -54,6 +72,12 @@ pub enum WaitStep {
     Shload(Option<Call>),
     /// Stores 1 into the shutdown word.
     Shstore(Option<Call>),
+    /// Swaps a spin word with 1. Where it was 0 what it guards is in hand.
+    Take(Spot, Option<Call>),
+    /// Loads a spin word that was found taken.
+    Spin(Spot),
+    /// Stores 0 into a spin word, and what was in hand goes home. The seat's target is then this.
+    Free(Spot, Option<CvNo>),
 }
 
 /// The word before a step, and whether the step wrote it.
@@ -69,13 +93,17 @@ impl WaitStep {
         ensures { (n : ℕ) → op_gives result n ≡ becomes self n }
     {
         match self {
-            WaitStep::Sload(..) | WaitStep::Mload(_) | WaitStep::Look | WaitStep::Shload(_) => {
-                ClientOp::Load { at: 0 }
-            }
-            WaitStep::Sset(_) | WaitStep::Byte(_) | WaitStep::Shstore(_) => {
+            WaitStep::Sload(..)
+            | WaitStep::Mload(_)
+            | WaitStep::Look
+            | WaitStep::Shload(_)
+            | WaitStep::Spin(_) => ClientOp::Load { at: 0 },
+            WaitStep::Sset(_) | WaitStep::Byte(_) | WaitStep::Shstore(_) | WaitStep::Take(..) => {
                 ClientOp::Store { at: 0, value: 1 }
             }
-            WaitStep::Reset(_) | WaitStep::Drain => ClientOp::Store { at: 0, value: 0 },
+            WaitStep::Reset(_) | WaitStep::Drain | WaitStep::Free(..) => {
+                ClientOp::Store { at: 0, value: 0 }
+            }
             WaitStep::Mstore(may) => ClientOp::Store {
                 at: 0,
                 value: u64::from(may),
@@ -88,7 +116,11 @@ impl WaitStep {
     {
         !matches!(
             self,
-            WaitStep::Sload(..) | WaitStep::Mload(_) | WaitStep::Look | WaitStep::Shload(_)
+            WaitStep::Sload(..)
+                | WaitStep::Mload(_)
+                | WaitStep::Look
+                | WaitStep::Shload(_)
+                | WaitStep::Spin(_)
         )
     }
 }

@@ -1,12 +1,13 @@
 //! A table and the calls on it.
-ghost use Rattle.std.specs.Prelude.{◌≡◌, ◌<◌, ◌≤◌, ◌+◌, ◌^◌, Some, [], ◌∷◌, IfOk, MatchResult, length, true};
+ghost use Rattle.std.specs.Prelude.{◌≡◌, ◌<◌, ◌≤◌, ◌+◌, ◌^◌, None, Some, [], ◌∷◌, IfOk, MatchResult, length, true};
 ghost use Rattle.wait_core.specs.Ops.{op_at, op_gives, op_writes};
-ghost use Rattle.wait_core.specs.Words.{client_base, opened, phases, set_at, may_at, byte_at, shut_at, opening_words};
-ghost use Rattle.wait_core.specs.Machine.{word_of, writes, next, Allowed, top};
+ghost use Rattle.wait_core.specs.Words.{client_base, opened, phases, set_at, may_at, byte_at, shut_at, slot_of, opening_words};
+ghost use Rattle.wait_core.specs.Machine.{word_of, writes, as_kept, next_with, number_of, Allowed, top};
 ghost use Rattle.wait_core.specs.Parties.{newcomer};
 ghost use Rattle.wait_core.specs.Places.{is_asleep};
 ghost use Rattle.wait_core.specs.Seating.{party_of, fresh, client_moved, after_draw, stays, took_in};
-ghost use Rattle.wait_core.specs.Told.{Turns, Cuts};
+ghost use Rattle.wait_core.specs.Told.{Tells, Turns, Cuts};
+ghost use Rattle.wait_core.specs.Sending.{SendsHome, ListAfter, IsTaking, IsFreeing, IsApart};
 ghost use Rattle.wait_core.specs.Closing.{Ends, Stood};
 ghost use Rattle.wait_core.specs.Seats.{size_of};
 
@@ -15,12 +16,14 @@ use crate::opening::{opening_homes, opening_row};
 use crate::party::{ClientOp, Party};
 use crate::rule::{About, Coming, Does, Doing, Draws, Newcomer, TakesIn, WaitRule};
 use crate::seat::WaitSeat;
-use crate::step::{WaitSeen, WaitStep};
-use crate::view::{Kept, Size, WaitView};
+use crate::step::{Spot, WaitSeen, WaitStep};
+use crate::view::{Kept, Record, Size, WaitView};
+use arrayvec::ArrayVec;
 use atomic_table::{Seat, Table};
-use proc_table::{NoMemory, NoMoreProcs, ProcNo};
+use proc_table::{CvNo, NoMemory, NoMoreProcs, ProcNo};
 use std::alloc::Global;
 use std::marker::{Brand, Model};
+use std::mem;
 use std::sync::Wait;
 
 type Words<P> = Table<Kept, WaitView<<P as Party>::View>, About<P>, WaitRule<P>, Global>;
@@ -35,15 +38,13 @@ pub struct WaitTable<P: Party> {
 }
 
 impl<P: Party> Model for WaitTable<P> {
-    ghost use Rattle.std.specs.Prelude.{◌≡◌, ◌≤◌, ◌<◌, ◌+◌};
-    ghost use Rattle.wait_core.specs.Words.{client_base};
-    ghost use Rattle.wait_core.specs.Seats.{TableView, table_view};
+    ghost use Rattle.wait_core.specs.Seats.{TableView, IsTabled, table_view};
 
     ghost Value = { TableView P };
 
     ghost view = { λ t. table_view t.table.shared.table_id t.about.party t.about.size t.about.phase };
 
-    ghost invariant = { λ t. (t.table.shared.key ≡ t.about) × (t.table.shared.table_id.words ≡ client_base t.about.size + t.about.count) × (0 < t.about.size.procs) × (t.about.size.procs ≤ 64) × (t.about.size.cvs ≤ 160) × (t.about.size.bars ≤ 72) };
+    ghost invariant = { λ t. (t.table.shared.key ≡ t.about) × IsTabled t.table.shared.table_id t.about.size t.about.count };
 }
 
 impl<P: Party> WaitTable<P> {
@@ -124,26 +125,106 @@ impl<P: Party> WaitTable<P> {
     }
 
     /// Makes one step on one word, and answers the word before it. Where the step begins a call,
-    /// the seat goes on in that call. The word becomes what the step's kind says: the rule accounts
-    /// for each word by the steps that stand in the views (`laws::words_are_made`).
+    /// the seat goes on in that call. A step that finds a spin word free takes in hand what it
+    /// guards; one that frees a spin word sends it home as the seat changed it. The word becomes what
+    /// the step's kind says: the rule accounts for each word by the steps that stand in the views
+    /// (`laws::words_are_made`).
+    #[inline(always)]
     pub fn step(&self, seat: &mut WaitSeat<P>, step: WaitStep) -> WaitSeen
         requires table { seat.old.table_id ≡ self.now.table_id }
         requires place { Allowed (size_of self.now) step seat.old.view }
+        requires hand { SendsHome step seat.old }
         ensures table { (seat.new.table_id ≡ seat.old.table_id) × (seat.new.id ≡ seat.old.id) }
-        ensures view { seat.new.view ≡ next (size_of self.now) step seat.old.view result.old }
+        ensures view { seat.new.view ≡ next_with (size_of self.now) step seat.old.view result.old (as_kept seat.new.list seat.new.record) }
+        ensures hand { ListAfter step result.old seat.old seat.new }
         ensures changed { result.changed ≡ writes step }
         ensures told { result.old ≤ 1 }
+        ensures list { Tells (size_of self.now) step (number_of seat.old.view.own) result.old seat.new.list }
     {
-        let _ = &self.table;
+        let old = match step {
+            WaitStep::Take(spot, _) => self.take(seat, spot, step),
+            WaitStep::Free(spot, target) => self.free(seat, spot, target, step),
+            _ => self.step_apart(seat, step),
+        };
+        WaitSeen {
+            old,
+            changed: step.writes(),
+        }
+    }
+
+    // Swaps the spin word with 1. Where it was 0 what it guards leaves its slot.
+    #[inline(never)]
+    fn take(&self, seat: &mut WaitSeat<P>, spot: Spot, step: WaitStep) -> u64
+        requires table { seat.old.table_id ≡ self.now.table_id }
+        requires step { IsTaking spot step }
+        requires place { Allowed (size_of self.now) step seat.old.view }
+        ensures table { (seat.new.table_id ≡ seat.old.table_id) × (seat.new.id ≡ seat.old.id) }
+        ensures view { seat.new.view ≡ next_with (size_of self.now) step seat.old.view result (as_kept seat.new.list seat.new.record) }
+        ensures hand { ListAfter step result seat.old seat.new }
+        ensures told { result ≤ 1 }
+        ensures list { Tells (size_of self.now) step (number_of seat.old.view.own) result seat.new.list }
+    {
+        let slot = self.slot(spot);
+        let word = self.step_word(step, seat.number);
+        let old = self.make::<Brand, WaitStep>(&mut seat.seat, word, step.op(), &step);
+        if old == 0 {
+            let kept = self
+                .table
+                .shared
+                .exchange(&mut seat.seat, slot, Kept::nothing());
+            seat.list.items = kept.list;
+            seat.found = kept.record;
+        }
+        old
+    }
+
+    // Puts what is in hand into its slot, and stores 0 into the spin word.
+    #[inline(never)]
+    fn free(
+        &self,
+        seat: &mut WaitSeat<P>,
+        spot: Spot,
+        target: Option<CvNo>,
+        step: WaitStep,
+    ) -> u64
+        requires table { seat.old.table_id ≡ self.now.table_id }
+        requires step { IsFreeing spot target step }
+        requires place { Allowed (size_of self.now) step seat.old.view }
+        requires hand { SendsHome step seat.old }
+        ensures table { (seat.new.table_id ≡ seat.old.table_id) × (seat.new.id ≡ seat.old.id) }
+        ensures view { seat.new.view ≡ next_with (size_of self.now) step seat.old.view result (as_kept seat.new.list seat.new.record) }
+        ensures hand { ListAfter step result seat.old seat.new }
+        ensures told { result ≤ 1 }
+    {
+        let slot = self.slot(spot);
+        let kept = Kept {
+            list: mem::replace(&mut seat.list.items, ArrayVec::new()),
+            record: seat.found,
+        };
+        self.table.shared.exchange(&mut seat.seat, slot, kept);
+        let word = self.step_word(step, seat.number);
+        let old = self.make::<Brand, WaitStep>(&mut seat.seat, word, step.op(), &step);
+        seat.target = target;
+        old
+    }
+
+    // Makes a step on a word that is no spin word to be taken or freed.
+    #[inline(always)]
+    fn step_apart(&self, seat: &mut WaitSeat<P>, step: WaitStep) -> u64
+        requires table { seat.old.table_id ≡ self.now.table_id }
+        requires apart { IsApart step }
+        requires place { Allowed (size_of self.now) step seat.old.view }
+        ensures table { (seat.new.table_id ≡ seat.old.table_id) × (seat.new.id ≡ seat.old.id) }
+        ensures view { seat.new.view ≡ next_with (size_of self.now) step seat.old.view result (as_kept seat.new.list seat.new.record) }
+        ensures hand { (seat.new.list ≡ seat.old.list) × (seat.new.record ≡ seat.old.record) }
+        ensures told { result ≤ 1 }
+    {
         let word = self.step_word(step, seat.number);
         let old = self.make::<Brand, WaitStep>(&mut seat.seat, word, step.op(), &step);
         if let WaitStep::Drain = step {
             seat.backoff.reset();
         }
-        WaitSeen {
-            old,
-            changed: step.writes(),
-        }
+        old
     }
 
     /// Makes one step on one word of the client's.
@@ -180,13 +261,16 @@ impl<P: Party> WaitTable<P> {
     pub fn join(&self, into: &mut WaitSeat<P>, from: WaitSeat<P>)
         requires table { (into.old.table_id ≡ self.now.table_id) × (from.table_id ≡ self.now.table_id) }
         requires into { into.old.view.place ≡ [] }
-        requires free { (from.view.place ≡ []) × (from.view.attached ≡ []) }
+        requires free { (from.view.place ≡ []) × (from.view.target ≡ None) × (from.view.attached ≡ []) }
         ensures table { (into.new.table_id ≡ into.old.table_id) × (into.new.id ≡ into.old.id) }
         ensures view { into.new.view ≡ took_in P.both into.old.view from.view }
     {
         let WaitSeat {
             seat,
             number: _,
+            target: _,
+            list: _,
+            found: _,
             backoff: _,
         } = from;
         self.table
@@ -199,7 +283,7 @@ impl<P: Party> WaitTable<P> {
     where
         P: Drop,
         requires table { seat.table_id ≡ self.table_id }
-        requires free { (seat.view.place ≡ []) × (seat.view.attached ≡ []) }
+        requires free { (seat.view.place ≡ []) × (seat.view.target ≡ None) × (seat.view.attached ≡ []) }
         ensures ends { Ends (P.holds self.party) (P.word_count self.party) self seat result }
         ensures size { length result ≡ P.word_count self.party }
     {
@@ -208,6 +292,9 @@ impl<P: Party> WaitTable<P> {
         let WaitSeat {
             seat,
             number: _,
+            target: _,
+            list: _,
+            found: _,
             backoff: _,
         } = seat;
         WaitClosed {
@@ -274,6 +361,19 @@ impl<P: Party> WaitTable<P> {
             WaitStep::Mstore(_) => 3 * own + 2,
             WaitStep::Look | WaitStep::Drain => 3 * own + 3,
             WaitStep::Shload(_) | WaitStep::Shstore(_) => 3 * self.about.size.procs as usize + 1,
+            WaitStep::Take(spot, _) | WaitStep::Spin(spot) | WaitStep::Free(spot, _) => {
+                3 * self.about.size.procs as usize + 2 + self.slot(spot)
+            }
+        }
+    }
+
+    // The slot of what the spin word guards.
+    fn slot(&self, spot: Spot) -> usize
+        ensures { result ≡ slot_of (size_of self.now) spot }
+    {
+        match spot {
+            Spot::Cv(condition) => condition.number() as usize,
+            Spot::Bar(barrier) => self.about.size.cvs as usize + barrier.number() as usize,
         }
     }
 }

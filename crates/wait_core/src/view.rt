@@ -1,9 +1,9 @@
-//! What a seat knows. Values of `Frame`, `Made`, `Inherited`, `PartyView` and `WaitView`
+//! What a seat knows. Values of `Job`, `Frame`, `Made`, `Inherited`, `PartyView` and `WaitView`
 //! stand in contracts alone: the program makes none.
 
 use crate::step::{Until, WaitStep};
 use arrayvec::ArrayVec;
-use proc_table::ProcNo;
+use proc_table::{CvNo, ProcNo};
 use std::collections::LinkedList;
 
 /// How many backends, conditions and barriers a table has.
@@ -12,6 +12,23 @@ pub struct Size {
     pub procs: u32,
     pub cvs: u32,
     pub bars: u32,
+}
+
+/// What a spin word is taken for.
+pub enum Job {
+    /// The backend leaves the list of its target.
+    Cancel(CvNo),
+    /// It goes to the end of the list, and the condition is its target.
+    Prepare(CvNo),
+    /// In a sleep it looks whether it is still on the list. Where it isn't it was signalled, and goes
+    /// to the end again.
+    Resleep(CvNo),
+    /// The first is popped.
+    Signal(CvNo),
+    /// The first is popped. Where others remain the backend stands behind them, as the sentinel.
+    Broadcast(CvNo),
+    /// The next is popped, until the sentinel is off the list.
+    Rebroadcast(CvNo),
 }
 
 /// What is still to be done of a call. A seat's place is a stack of these, the innermost first.
@@ -44,12 +61,31 @@ pub enum Frame {
     LeavingShutdown,
     /// Stored the shutdown word, and will store the wake bytes from this backend on.
     Stopping(u32),
+    /// Will take the spin word of the job.
+    Taking(Job),
+    /// Found it taken, and will look until it is free.
+    Spinning(Job),
+    /// Has the list and the record in hand, as they were found, and will free the word.
+    Holding(Job, LinkedList<u32>, Record),
+    /// Was woken in a sleep on the condition, and will reset its latch.
+    Resetting(CvNo),
+    /// A sleep on the condition, behind its wait for the latch.
+    SleepWaiting(CvNo),
+    /// A listing on the condition, and a broadcast on it, behind the leaving of another list.
+    Preparing(CvNo),
+    Broadcasting(CvNo),
+    /// A signal that popped the backend, whose latch it sets.
+    Signalling(CvNo, ProcNo),
+    /// A broadcast that popped the backend, and whether its sentinel was on the list when it freed
+    /// the word.
+    Rousing(CvNo, ProcNo, bool),
 }
 
-/// A step that was made, and the word that it found.
+/// A step that was made, the word that it found, and the list that it took in hand or sent home.
 pub struct Made {
     pub step: WaitStep,
     pub found: u64,
+    pub list: LinkedList<u32>,
 }
 
 /// A step of a seat that was joined into this one, which had the number `by`.
@@ -85,6 +121,10 @@ pub struct WaitView<C> {
     pub client: C,
     pub attached: LinkedList<(u32, u64)>,
     pub elections: LinkedList<(u32, u64)>,
+    /// The condition that it sleeps on, or prepared to.
+    pub target: Option<u32>,
+    /// It didn't reset its latch by itself since it was listed there.
+    pub heeds: bool,
 }
 
 /// What a barrier keeps.
@@ -101,4 +141,14 @@ pub struct Record {
 pub struct Kept {
     pub list: ArrayVec<u32, 64>,
     pub record: Record,
+}
+
+impl Kept {
+    // Lies in a slot while what it keeps is in hand.
+    pub(crate) fn nothing() -> Kept {
+        Kept {
+            list: ArrayVec::new(),
+            record: Record::default(),
+        }
+    }
 }

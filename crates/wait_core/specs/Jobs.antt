@@ -1,0 +1,74 @@
+-- What a spin word is taken for: which word, what its free makes of the list, of the seat's target and of whether it heeds its signal, and how the program goes on.
+use Rattle.std.specs.Prelude.{ℕ, ◌==◌, Bool, true, false, cond, List, [], ◌∷◌, ◌++◌, Option, None, Some}
+use Rattle.wait_core.specs.declared.step.Spot.{Spot}
+use Rattle.wait_core.specs.declared.step.Spot.TheVariants.{Cv, Bar}
+use Rattle.wait_core.specs.declared.view.Job.{Job}
+use Rattle.wait_core.specs.declared.view.Job.TheVariants as job
+use Rattle.wait_core.specs.declared.view.Frame.{Frame}
+use Rattle.wait_core.specs.declared.view.Frame.TheVariants.{Taking, Resetting, SleepWaiting, Preparing, Broadcasting, Signalling, Rousing}
+use Rattle.wait_core.specs.Lists.{is_listed, is_empty, rest_of, without}
+
+-- the condition of the job, and its spin word
+abbrev pub condition_of : Job → ℕ
+condition_of (job.Cancel c) = c
+condition_of (job.Prepare c) = c
+condition_of (job.Resleep c) = c
+condition_of (job.Signal c) = c
+condition_of (job.Broadcast c) = c
+condition_of (job.Rebroadcast c) = c
+
+abbrev pub spot_of : Job → Spot
+spot_of j = Cv (condition_of j)
+
+-- the list that goes home, where the backend `own` found this one
+abbrev pub left_list : Job → ℕ → List ℕ → List ℕ
+left_list (job.Cancel c) own list = without own list
+left_list (job.Prepare c) own list = list ++ own ∷ []
+left_list (job.Resleep c) own list = cond (is_listed own list) list (list ++ own ∷ [])
+left_list (job.Signal c) own list = rest_of list
+left_list (job.Broadcast c) own list = cond (is_empty (rest_of list)) [] (rest_of list ++ own ∷ [])
+left_list (job.Rebroadcast c) own list = rest_of list
+
+-- the seat's target after it
+abbrev pub target_after : Job → Option ℕ → Option ℕ
+target_after (job.Cancel c) target = None
+target_after (job.Prepare c) target = Some c
+target_after j target = target
+
+-- who goes to the end of a list heeds its signal, until it resets its latch by itself
+abbrev pub heeds_after : Job → ℕ → List ℕ → Bool → Bool
+heeds_after (job.Prepare c) own list heeds = true
+heeds_after (job.Resleep c) own list heeds = cond (is_listed own list) heeds true
+heeds_after j own list heeds = heeds
+
+-- the place that follows a program that ended above this one. A broadcast goes on while its sentinel is on the list
+abbrev pub resumed : List Frame → List Frame
+resumed [] = []
+resumed (SleepWaiting c ∷ p) = Resetting c ∷ p
+resumed (Preparing c ∷ p) = Taking (job.Prepare c) ∷ p
+resumed (Broadcasting c ∷ p) = Taking (job.Broadcast c) ∷ p
+resumed (Signalling c q ∷ p) = resumed p
+resumed (Rousing c q more ∷ p) = cond more (Taking (job.Rebroadcast c) ∷ p) (resumed p)
+resumed (f ∷ p) = f ∷ p
+
+-- the head was popped by a signal; by a broadcast whose sentinel stands behind the others, if there are any; and by a broadcast that goes on, until it pops its sentinel
+abbrev pub signals : ℕ → List ℕ → List Frame → List Frame
+signals c [] p = resumed p
+signals c (q ∷ rest) p = Signalling c q ∷ p
+
+abbrev pub rouses : ℕ → List ℕ → List Frame → List Frame
+rouses c [] p = resumed p
+rouses c (q ∷ rest) p = Rousing c q (cond (is_empty rest) false true) ∷ p
+
+abbrev pub rouses_on : ℕ → ℕ → List ℕ → List Frame → List Frame
+rouses_on c own [] p = resumed p
+rouses_on c own (q ∷ rest) p = cond (q == own) (resumed p) (Rousing c q (is_listed own rest) ∷ p)
+
+-- the place after the free
+abbrev pub goes_on : Job → ℕ → List ℕ → List Frame → List Frame
+goes_on (job.Cancel c) own list p = resumed p
+goes_on (job.Prepare c) own list p = resumed p
+goes_on (job.Resleep c) own list p = cond (is_listed own list) (SleepWaiting c ∷ p) (resumed p)
+goes_on (job.Signal c) own list p = signals c list p
+goes_on (job.Broadcast c) own list p = rouses c list p
+goes_on (job.Rebroadcast c) own list p = rouses_on c own list p
