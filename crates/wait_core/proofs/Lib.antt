@@ -3,7 +3,7 @@ pub mod Counts
 pub mod MaySleepIsMarked
 pub mod SetLatchWakes
 pub mod ShutdownWakes
-pub mod Nesting
+pub mod Fitting
 pub mod RuleKept
 pub mod Untouched
 pub mod WordsAreMade

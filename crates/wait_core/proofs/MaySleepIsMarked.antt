@@ -6,10 +6,10 @@ use native.Mathlib.Decide.{ℕ_discrete}
 use lib.ListN.{get_elem?}
 use lib.Seq.{set-get_or}
 use Rattle.wait_core.specs.declared.step.WaitStep.{WaitStep}
-use Rattle.wait_core.specs.declared.step.WaitStep.TheVariants.{Sload, Sset, Reset, Mstore, Mload, Byte, Look, Drain, Shload, Shstore}
+use Rattle.wait_core.specs.declared.step.WaitStep.TheVariants.{Sload, Sset, Reset, Mstore, Mload, Byte, Look, Drain, Shload, Shstore, Take, Spin, Free}
 use Rattle.wait_core.specs.declared.view.Size.{Size}
 use Rattle.seat_roster.specs.Totals.{total}
-use Rattle.wait_core.specs.Words.{set_at, may_at, byte_at, shut_at}
+use Rattle.wait_core.specs.Words.{set_at, may_at, byte_at, shut_at, slot_of, spin_at}
 use Rattle.wait_core.specs.Machine.{top, bit, word_of, becomes}
 use Rattle.wait_core.specs.Seating.{Standing}
 use Rattle.wait_core.specs.Places.{may_sleep}
@@ -47,3 +47,6 @@ module _ (z : Size) (words : List ℕ) (seats : List Standing) (alone : (p : ℕ
   may_kept Drain e = same (byte_at o) 0 (λ p below is. omega arith) e.may
   may_kept (Shload b) e = unread (shut_at z) e.may
   may_kept (Shstore b) e = same (shut_at z) 1 (λ p below is. omega arith) e.may
+  may_kept (Take x b) e = same (spin_at z (slot_of z x)) 1 (λ p below is. omega arith) e.may
+  may_kept (Spin x) e = unread (spin_at z (slot_of z x)) e.may
+  may_kept (Free x after) e = same (spin_at z (slot_of z x)) 0 (λ p below is. omega arith) e.may

@@ -6,11 +6,12 @@ use native.Mathlib.Decide.{ℕ_discrete}
 use lib.ListN.{get_elem?}
 use lib.Seq.{set-get_or}
 use Rattle.wait_core.specs.declared.step.WaitStep.{WaitStep}
-use Rattle.wait_core.specs.declared.step.WaitStep.TheVariants.{Sload, Sset, Reset, Mstore, Mload, Byte, Look, Drain, Shload, Shstore}
+use Rattle.wait_core.specs.declared.step.WaitStep.TheVariants.{Sload, Sset, Reset, Mstore, Mload, Byte, Look, Drain, Shload, Shstore, Take, Spin, Free}
+use Rattle.wait_core.specs.declared.view.Kept.{Kept}
 use Rattle.wait_core.specs.declared.view.Size.{Size}
 use Rattle.seat_roster.specs.Totals.{total}
-use Rattle.wait_core.specs.Words.{set_at, may_at, byte_at, shut_at, client_base}
-use Rattle.wait_core.specs.Machine.{Place, top, bit, word_of, becomes, place_after, Permits}
+use Rattle.wait_core.specs.Words.{set_at, may_at, byte_at, shut_at, slot_of, spin_at, client_base}
+use Rattle.wait_core.specs.Machine.{Place, top, bit, word_of, becomes, place_then, Permits}
 use Rattle.wait_core.specs.Seating.{Standing}
 use Rattle.wait_core.specs.Places.{may_sleep, past_latch, tells, backend_count}
 use Rattle.wait_core.specs.MaySleepIsMarked.{MaySleepIsMarked}
@@ -40,37 +41,40 @@ module _ (z : Size) (words : List ℕ) (seats : List Standing) (alone : (p : ℕ
   never : {A : Type 0} → A ⊎ ⊥ → A
   never h = ⊎_elim (λ a. a) (λ x. absurd x) h
 
-  pub latch_kept : (k : WaitStep) → Permits z k (Some o) v.place → Effect z k (get_or words (word_of z o k) 0) (top v.place) (top w.place) → w.place ≡ place_after z k (get_or words (word_of z o k) 0) v.place
+  pub latch_kept : (k : WaitStep) (found : Kept) → Permits z k (Some o) v.target v.place → Effect z k (get_or words (word_of z o k) 0) (top v.place) (top w.place) → w.place ≡ place_then z k (get_or words (word_of z o k) 0) found record { own = o; target = v.target; place = v.place }
       → SetLatchWakes z.procs (set words (word_of z o k) (becomes k (get_or words (word_of z o k) 0))) (set seats id w)
-  latch_kept (Sload q (Some c)) ok e goes p below = unread (set_at q) p below (after_le seats alone id o v w at own still p past_latch (never e.latch)) (never (e.telling p))
-  latch_kept (Sload q None) ok e goes p below = ⊎_elim
+  latch_kept (Sload q (Some c)) found ok e goes p below = unread (set_at q) p below (after_le seats alone id o v w at own still p past_latch (never e.latch)) (never (e.telling p))
+  latch_kept (Sload q None) found ok e goes p below = ⊎_elim
       (λ less. unread (set_at q) p below (after_le seats alone id o v w at own still p past_latch less) (never (e.telling p)))
       (λ (clear : get_or words (set_at q) 0 ≡ 0). dite (ℕ_discrete o p)
       (λ is come up. let mine : q ≡ o = cc (ok.0) in let same = ap (λ (l : List ℕ). get_or l (set_at p) 0) (set-get_or words (set_at q) 0) in
       let there = ap (λ (n : ℕ). get_or words (set_at n) 0) (mine ∙ is) in absurd (omega arith))
       (λ ne. let a = after_other seats alone id o v w at own still p past_latch ne in unread (set_at q) p below (omega arith) (never (e.telling p))))
       e.latch
-  latch_kept (Sset q) ok e goes p below = dite (ℕ_discrete q p)
+  latch_kept (Sset q) found ok e goes p below = dite (ℕ_discrete q p)
       (λ is come up. let sum = after_any seats alone id o v w at own still (tells p) in let low = any_at seats alone id o v w at own still (tells p) in
       let one : bit (tells p (top w.place)) ≡ 1 = ap (λ (x : Place). bit (tells p (top x))) goes ∙ ap bit (eq-eqb q p is) in omega arith)
       (λ ne. apart (set_at q) 1 p below (λ x. ne (omega arith)) (λ x. omega arith) (never e.latch) (never (e.telling p)))
-  latch_kept (Reset b) ok e goes p below = dite (ℕ_discrete o p)
+  latch_kept (Reset b) found ok e goes p below = dite (ℕ_discrete o p)
       (λ is come up. let here = get_or-set_same words (set_at o) 0 0 (omega arith) in let there = ap (λ (n : ℕ). get_or (set words (set_at o) 0) (set_at n) 0) is in absurd (omega arith))
       (λ ne. apart (set_at o) 0 p below (λ x. ne (omega arith)) (λ x. omega arith) (never e.latch) (never (e.telling p)))
-  latch_kept (Mstore b) ok e goes p below = apart (may_at o) (bit b) p below (λ x. omega arith) (λ x. omega arith) (never e.latch) (never (e.telling p))
-  latch_kept (Mload q) ok e goes p below = ⊎_elim
+  latch_kept (Mstore b) found ok e goes p below = apart (may_at o) (bit b) p below (λ x. omega arith) (λ x. omega arith) (never e.latch) (never (e.telling p))
+  latch_kept (Mload q) found ok e goes p below = ⊎_elim
       (λ told. unread (may_at q) p below (after_le seats alone id o v w at own still p past_latch (never e.latch)) told)
       (λ (done : (q ≡ p) × (get_or words (may_at q) 0 ≡ 0)). λ come up.
       let marked = may p below in let there = ap (λ (n : ℕ). get_or words (may_at n) 0) done.0 in let zero_is = done.1 in
       let low = backend_le p past_latch may_sleep seats latch_marked in let less = after_le seats alone id o v w at own still p past_latch (never e.latch) in absurd (omega arith))
       (e.telling p)
-  latch_kept (Byte q) ok e goes p below = dite (ℕ_discrete q p)
+  latch_kept (Byte q) found ok e goes p below = dite (ℕ_discrete q p)
       (λ is come up. let few = ok.0 in let here = get_or-set_same words (byte_at q) 1 0 (omega arith) in let there = ap (λ (n : ℕ). get_or (set words (byte_at q) 1) (byte_at n) 0) is in omega arith)
       (λ ne. apart (byte_at q) 1 p below (λ x. omega arith) (λ x. ne (omega arith)) (never e.latch) (⊎_elim (λ told. told) (λ is. absurd (ne is)) (e.telling p)))
-  latch_kept Look ok e goes p below = unread (byte_at o) p below (after_le seats alone id o v w at own still p past_latch (never e.latch)) (never (e.telling p))
-  latch_kept Drain ok e goes p below = dite (ℕ_discrete o p)
+  latch_kept Look found ok e goes p below = unread (byte_at o) p below (after_le seats alone id o v w at own still p past_latch (never e.latch)) (never (e.telling p))
+  latch_kept Drain found ok e goes p below = dite (ℕ_discrete o p)
       (λ is come up. let a = after_mine seats alone id o v w at own still p past_latch is in let less = never e.latch in let low = latch_marked (top v.place) in let awake : bit (may_sleep (top v.place)) ≡ 0 = ap bit (drains_awake (top v.place) ok) in absurd (omega arith))
       (λ ne. apart (byte_at o) 0 p below (λ x. omega arith) (λ x. ne (omega arith)) (never e.latch) (never (e.telling p)))
-  latch_kept (Shload (Some c)) ok e goes p below = unread (shut_at z) p below (after_le seats alone id o v w at own still p past_latch (never e.latch)) (never (e.telling p))
-  latch_kept (Shload None) ok e goes p below = unread (shut_at z) p below (after_le seats alone id o v w at own still p past_latch (never e.latch)) (never (e.telling p))
-  latch_kept (Shstore b) ok e goes p below = apart (shut_at z) 1 p below (λ x. omega arith) (λ x. omega arith) (never e.latch) (never (e.telling p))
+  latch_kept (Shload (Some c)) found ok e goes p below = unread (shut_at z) p below (after_le seats alone id o v w at own still p past_latch (never e.latch)) (never (e.telling p))
+  latch_kept (Shload None) found ok e goes p below = unread (shut_at z) p below (after_le seats alone id o v w at own still p past_latch (never e.latch)) (never (e.telling p))
+  latch_kept (Shstore b) found ok e goes p below = apart (shut_at z) 1 p below (λ x. omega arith) (λ x. omega arith) (never e.latch) (never (e.telling p))
+  latch_kept (Take x b) found ok e goes p below = apart (spin_at z (slot_of z x)) 1 p below (λ x. omega arith) (λ x. omega arith) (never e.latch) (never (e.telling p))
+  latch_kept (Spin x) found ok e goes p below = unread (spin_at z (slot_of z x)) p below (after_le seats alone id o v w at own still p past_latch (never e.latch)) (never (e.telling p))
+  latch_kept (Free x after) found ok e goes p below = apart (spin_at z (slot_of z x)) 0 p below (λ x. omega arith) (λ x. omega arith) (never e.latch) (never (e.telling p))

@@ -247,12 +247,19 @@ home_of (maybe.some (maybe.some k)) = k
 abbrev pub home_in : List (maybe.Option Kept) → ℕ → Kept
 home_in homes x = home_of (get_elem? homes x)
 
--- the slot of the step's spin word
+-- the step's spin word, and its slot
+abbrev pub step_spot : WaitStep → Option Spot
+step_spot (Take x begins) = Some x
+step_spot (Spin x) = Some x
+step_spot (Free x target) = Some x
+step_spot k = None
+
+abbrev pub slot_at : Size → Option Spot → ℕ
+slot_at z None = 0
+slot_at z (Some x) = slot_of z x
+
 abbrev pub slot_number : Size → WaitStep → ℕ
-slot_number z (Take x begins) = slot_of z x
-slot_number z (Spin x) = slot_of z x
-slot_number z (Free x target) = slot_of z x
-slot_number z k = 0
+slot_number z k = slot_at z (step_spot k)
 
 -- what the step does to its slot, where it found n
 abbrev pub act_of : Size → WaitStep → ℕ → Kept → Act Kept
@@ -264,12 +271,21 @@ act_of z k n found = keeps
 abbrev pub carried : Size → WaitStep → ℕ → Place → List (ℕ × Kept)
 carried z k own p = (slot_number z k, left_at own p) ∷ []
 
--- CONDITIONS. The call's program stands inside that of the frame
+-- CONDITIONS. The call sets the latch of q, or waits for the own latch alone
+abbrev pub SetsLatchOf : ℕ → Call → Type 0
+SetsLatchOf q (call.Set r) = q ≡ r
+SetsLatchOf q c = ⊥
+
+abbrev pub WaitsForLatch : Call → Type 0
+WaitsForLatch (call.Wait Latch) = ⊤
+WaitsForLatch c = ⊥
+
+-- the call's program stands inside that of the frame
 abbrev pub IsInside : Call → Frame → Type 0
-IsInside (call.Set q) (Signalling c r) = r ≡ q
-IsInside (call.Set q) (Rousing c r more) = r ≡ q
-IsInside (call.Wait Latch) (SleepWaiting c) = ⊤
-IsInside c f = ⊥
+IsInside k (Signalling c q) = SetsLatchOf q k
+IsInside k (Rousing c q more) = SetsLatchOf q k
+IsInside k (SleepWaiting c) = WaitsForLatch k
+IsInside k f = ⊥
 
 -- the call may begin here: the seat is in no call, or at a frame whose program has the call inside
 abbrev pub MayBegin : Call → Place → Type 0

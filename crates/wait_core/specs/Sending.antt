@@ -1,6 +1,5 @@
 -- What a step needs of what is in hand, and what becomes of it.
-use Rattle.std.specs.Prelude.{◌≡◌, ◌≢◌, ℕ, List, [], Option, ⊤}
-use Rattle.wait_core.specs.declared.step.Spot.{Spot}
+use Rattle.std.specs.Prelude.{◌≡◌, ◌≢◌, ℕ, List, [], ⊤}
 use Rattle.wait_core.specs.declared.step.WaitStep.{WaitStep}
 use Rattle.wait_core.specs.declared.step.WaitStep.TheVariants.{Take, Free}
 use Rattle.wait_core.specs.declared.view.Kept.{Kept}
@@ -27,14 +26,14 @@ module _ {C : Type 0} where
   HasSlot z (Free x target) v c = c ≡ carried z (Free x target) (number_of v.own) v.place
   HasSlot z k v c = Carries (hand_at v.place) c
 
--- a step that may take the spin word in hand, one that frees it, and one that does neither
-abbrev pub IsTaking : Spot → WaitStep → Type 0
-IsTaking x (Take y begins) = y ≡ x
-IsTaking x k = ⊥
+-- a step that may take a spin word in hand, one that frees one, and one that does neither
+abbrev pub IsTaking : WaitStep → Type 0
+IsTaking (Take x begins) = ⊤
+IsTaking k = ⊥
 
-abbrev pub IsFreeing : Spot → Option ℕ → WaitStep → Type 0
-IsFreeing x after (Free y target) = (y ≡ x) × (target ≡ after)
-IsFreeing x after k = ⊥
+abbrev pub IsFreeing : WaitStep → Type 0
+IsFreeing (Free x target) = ⊤
+IsFreeing k = ⊥
 
 abbrev pub IsApart : WaitStep → Type 0
 IsApart (Take x begins) = ⊥

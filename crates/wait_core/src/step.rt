@@ -1,7 +1,7 @@
 //! The kinds of step on a word, and the calls that they make up.
 ghost use Rattle.std.specs.Prelude.{◌≡◌, ℕ};
 ghost use Rattle.wait_core.specs.Ops.{op_gives};
-ghost use Rattle.wait_core.specs.Machine.{becomes, writes};
+ghost use Rattle.wait_core.specs.Machine.{becomes, writes, step_spot, target_then};
 
 use crate::party::ClientOp;
 use proc_table::{BarNo, CvNo, ProcNo};
@@ -88,6 +88,26 @@ pub struct WaitSeen {
 }
 
 impl WaitStep {
+    // The spin word that the step is on.
+    pub(crate) fn spot(self) -> Option<Spot>
+        ensures { result ≡ step_spot self }
+    {
+        match self {
+            WaitStep::Take(spot, _) | WaitStep::Spin(spot) | WaitStep::Free(spot, _) => Some(spot),
+            _ => None,
+        }
+    }
+
+    // The seat's target after the step.
+    pub(crate) fn target_then(self, target: Option<CvNo>) -> Option<CvNo>
+        ensures { result ≡ target_then self target }
+    {
+        match self {
+            WaitStep::Free(_, after) => after,
+            _ => target,
+        }
+    }
+
     // The operation by which the table makes the step.
     pub(crate) fn op(self) -> ClientOp
         ensures { (n : ℕ) → op_gives result n ≡ becomes self n }

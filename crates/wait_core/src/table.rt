@@ -1,8 +1,8 @@
 //! A table and the calls on it.
 ghost use Rattle.std.specs.Prelude.{◌≡◌, ◌<◌, ◌≤◌, ◌+◌, ◌^◌, None, Some, [], ◌∷◌, IfOk, MatchResult, length, true};
 ghost use Rattle.wait_core.specs.Ops.{op_at, op_gives, op_writes};
-ghost use Rattle.wait_core.specs.Words.{client_base, opened, phases, set_at, may_at, byte_at, shut_at, slot_of, opening_words};
-ghost use Rattle.wait_core.specs.Machine.{word_of, writes, as_kept, next_with, number_of, Allowed, top};
+ghost use Rattle.wait_core.specs.Words.{client_base, opened, phases, set_at, may_at, byte_at, shut_at, opening_words};
+ghost use Rattle.wait_core.specs.Machine.{word_of, writes, as_kept, next_with, number_of, slot_number, Allowed, top};
 ghost use Rattle.wait_core.specs.Parties.{newcomer};
 ghost use Rattle.wait_core.specs.Places.{is_asleep};
 ghost use Rattle.wait_core.specs.Seating.{party_of, fresh, client_moved, after_draw, stays, took_in};
@@ -17,10 +17,10 @@ use crate::party::{ClientOp, Party};
 use crate::rule::{About, Coming, Does, Doing, Draws, Newcomer, TakesIn, WaitRule};
 use crate::seat::WaitSeat;
 use crate::step::{Spot, WaitSeen, WaitStep};
-use crate::view::{Kept, Record, Size, WaitView};
+use crate::view::{Kept, Size, WaitView};
 use arrayvec::ArrayVec;
 use atomic_table::{Seat, Table};
-use proc_table::{CvNo, NoMemory, NoMoreProcs, ProcNo};
+use proc_table::{NoMemory, NoMoreProcs, ProcNo};
 use std::alloc::Global;
 use std::marker::{Brand, Model};
 use std::mem;
@@ -142,8 +142,8 @@ impl<P: Party> WaitTable<P> {
         ensures list { Tells (size_of self.now) step (number_of seat.old.view.own) result.old seat.new.list }
     {
         let old = match step {
-            WaitStep::Take(spot, _) => self.take(seat, spot, step),
-            WaitStep::Free(spot, target) => self.free(seat, spot, target, step),
+            WaitStep::Take(..) => self.take(seat, step),
+            WaitStep::Free(..) => self.free(seat, step),
             _ => self.step_apart(seat, step),
         };
         WaitSeen {
@@ -154,9 +154,9 @@ impl<P: Party> WaitTable<P> {
 
     // Swaps the spin word with 1. Where it was 0 what it guards leaves its slot.
     #[inline(never)]
-    fn take(&self, seat: &mut WaitSeat<P>, spot: Spot, step: WaitStep) -> u64
+    fn take(&self, seat: &mut WaitSeat<P>, step: WaitStep) -> u64
         requires table { seat.old.table_id ≡ self.now.table_id }
-        requires step { IsTaking spot step }
+        requires step { IsTaking step }
         requires place { Allowed (size_of self.now) step seat.old.view }
         ensures table { (seat.new.table_id ≡ seat.old.table_id) × (seat.new.id ≡ seat.old.id) }
         ensures view { seat.new.view ≡ next_with (size_of self.now) step seat.old.view result (as_kept seat.new.list seat.new.record) }
@@ -164,7 +164,7 @@ impl<P: Party> WaitTable<P> {
         ensures told { result ≤ 1 }
         ensures list { Tells (size_of self.now) step (number_of seat.old.view.own) result seat.new.list }
     {
-        let slot = self.slot(spot);
+        let slot = self.slot_number(step);
         let word = self.step_word(step, seat.number);
         let old = self.make::<Brand, WaitStep>(&mut seat.seat, word, step.op(), &step);
         if old == 0 {
@@ -180,15 +180,9 @@ impl<P: Party> WaitTable<P> {
 
     // Puts what is in hand into its slot, and stores 0 into the spin word.
     #[inline(never)]
-    fn free(
-        &self,
-        seat: &mut WaitSeat<P>,
-        spot: Spot,
-        target: Option<CvNo>,
-        step: WaitStep,
-    ) -> u64
+    fn free(&self, seat: &mut WaitSeat<P>, step: WaitStep) -> u64
         requires table { seat.old.table_id ≡ self.now.table_id }
-        requires step { IsFreeing spot target step }
+        requires step { IsFreeing step }
         requires place { Allowed (size_of self.now) step seat.old.view }
         requires hand { SendsHome step seat.old }
         ensures table { (seat.new.table_id ≡ seat.old.table_id) × (seat.new.id ≡ seat.old.id) }
@@ -196,7 +190,7 @@ impl<P: Party> WaitTable<P> {
         ensures hand { ListAfter step result seat.old seat.new }
         ensures told { result ≤ 1 }
     {
-        let slot = self.slot(spot);
+        let slot = self.slot_number(step);
         let kept = Kept {
             list: mem::replace(&mut seat.list.items, ArrayVec::new()),
             record: seat.found,
@@ -204,7 +198,7 @@ impl<P: Party> WaitTable<P> {
         self.table.shared.exchange(&mut seat.seat, slot, kept);
         let word = self.step_word(step, seat.number);
         let old = self.make::<Brand, WaitStep>(&mut seat.seat, word, step.op(), &step);
-        seat.target = target;
+        seat.target = step.target_then(seat.target);
         old
     }
 
@@ -361,19 +355,20 @@ impl<P: Party> WaitTable<P> {
             WaitStep::Mstore(_) => 3 * own + 2,
             WaitStep::Look | WaitStep::Drain => 3 * own + 3,
             WaitStep::Shload(_) | WaitStep::Shstore(_) => 3 * self.about.size.procs as usize + 1,
-            WaitStep::Take(spot, _) | WaitStep::Spin(spot) | WaitStep::Free(spot, _) => {
-                3 * self.about.size.procs as usize + 2 + self.slot(spot)
+            WaitStep::Take(..) | WaitStep::Spin(_) | WaitStep::Free(..) => {
+                3 * self.about.size.procs as usize + 2 + self.slot_number(step)
             }
         }
     }
 
-    // The slot of what the spin word guards.
-    fn slot(&self, spot: Spot) -> usize
-        ensures { result ≡ slot_of (size_of self.now) spot }
+    // The slot of what the step's spin word guards.
+    fn slot_number(&self, step: WaitStep) -> usize
+        ensures { result ≡ slot_number (size_of self.now) step }
     {
-        match spot {
-            Spot::Cv(condition) => condition.number() as usize,
-            Spot::Bar(barrier) => self.about.size.cvs as usize + barrier.number() as usize,
+        match step.spot() {
+            Some(Spot::Cv(condition)) => condition.number() as usize,
+            Some(Spot::Bar(barrier)) => self.about.size.cvs as usize + barrier.number() as usize,
+            None => 0,
         }
     }
 }

@@ -4,7 +4,7 @@ use Rattle.wait_core.specs.Words.{byte_at, client_base}
 use Rattle.wait_core.specs.Machine.{Allowed, Permits}
 use Rattle.wait_core.proofs.Asks.{step_turns}
 use Rattle.wait_core.proofs.RuleKept.{word_below}
-use Rattle.wait_core.proofs.table.WaitTable.step.Goals as goal
+use Rattle.wait_core.proofs.table.WaitTable.step_apart.Goals as goal
 
 pub make-old-requires-clause-table : goal.make-old-requires-clause-table
 make-old-requires-clause-table g c κs within =
