@@ -1,24 +1,26 @@
 -- What each call on the table owes to it, from what the call's caller knows.
-use Rattle.std.proofs.Common.{◌≡◌, ℕ, ◌+◌, ◌^◌, ◌<◌, List, [], ◌∷◌, ◌++◌, get_or, set, Option, None, Some, refl, sym, ap, ◌∙◌, subst, arith}
+use Rattle.std.proofs.Common.{◌≡◌, ℕ, ◌+◌, ◌^◌, ◌<◌, eqb, Bool, true, false, cond, List, [], ◌∷◌, ◌++◌, get_or, set, Option, None, Some, refl, sym, ap, ◌∙◌, subst, arith}
 use Rattle.atomic_table.specs.Seated.{TableId}
-use Rattle.atomic_table.specs.Table.{Me, Step, keeps, stepped}
+use Rattle.atomic_table.specs.Table.{Me, Step, homes_after, keeps, takes, stepped}
 use Rattle.atomic_table.proofs.Lists.{at_map, set_else}
 use Rattle.wait_core.specs.declared.party.ClientOp.{ClientOp}
 use Rattle.wait_core.specs.declared.step.WaitStep.{WaitStep}
+use Rattle.wait_core.specs.declared.step.WaitStep.TheVariants.{Take, Free}
 use Rattle.wait_core.specs.declared.view.Kept.{Kept}
 use Rattle.wait_core.specs.declared.view.PartyView.{PartyView}
 use Rattle.wait_core.specs.declared.view.Size.{Size}
 use Rattle.wait_core.specs.declared.view.WaitView.{WaitView}
 use Rattle.wait_core.specs.Ops.{op_at, op_gives}
-use Rattle.wait_core.specs.Words.{client_base}
+use Rattle.wait_core.specs.Words.{slot_of, client_base}
 use mathlib.Core.Option as maybe
 use lib.ListN.{get_elem?}
-use Rattle.wait_core.specs.Machine.{WaitState, word_of, becomes, next, Permits, Allowed}
+use Rattle.wait_core.specs.Machine.{WaitState, number_of, word_of, becomes, home_in, slot_number, carried, act_of, left_at, next_with, Permits, Allowed}
 use Rattle.wait_core.specs.Parties.{with_client, newcomer, joined, left_over, IsStep, IsDraw, IsJoin}
 use Rattle.wait_core.specs.Seating.{numbers_of, party_of, client_moved, with_drawn, stays, comes, took_in, spent_view}
 use Rattle.wait_core.specs.Rule.{Rule}
 use Rattle.wait_core.specs.Told.{does, does_client, looks, draws, Turns, Cuts, Glues}
 use Rattle.wait_core.specs.Seats.{TableView, table_view, size_of}
+use Rattle.wait_core.specs.Sending.{HasSlot}
 use Rattle.wait_core.proofs.RuleKept.{step_kept, word_inside, own_below}
 use Rattle.wait_core.proofs.SeatsKept.{client_kept, draw_kept, seat_kept, join_kept}
 
@@ -37,18 +39,32 @@ asked key about told party size phase count law words_of tid t is counted seat i
           (subst (λ (x : TableView _). Turns (law x.party) (size_of x) x.phase (words_of x.party) x.table_id.slots id me word (op_gives o) gives) (sym is) h))),
     )
 
+-- where what is in hand goes home it is what the seat has out; else no slot is read
+homes_same : {C : Type 0} (z : Size) (k : WaitStep) (o n : ℕ) (found : Kept) (v : WaitView C) → number_of v.own ≡ o → (homes : List (maybe.Option Kept)) (c : List (ℕ × Kept)) → HasSlot z k v c
+    → homes_after homes (carried z k o v.place) (act_of z k n found) ≡ homes_after homes c (act_of z k n found)
+homes_same z (Take x b) o n found v is homes c h = by_word (eqb n 0)
+  where
+    by_word : (clear : Bool) → homes_after homes (carried z (Take x b) o v.place) (cond clear (takes (slot_of z x) found) keeps) ≡ homes_after homes c (cond clear (takes (slot_of z x) found) keeps)
+    by_word true = refl
+    by_word false = refl
+homes_same z (Free x after) o n found v is homes c h = ap (λ (y : ℕ). homes_after homes (carried z (Free x after) y v.place) (act_of z (Free x after) n found)) (sym is) ∙ ap (λ (l : List (ℕ × Kept)). homes_after homes l (act_of z (Free x after) n found)) (sym h)
+homes_same z k o n found v is homes c h = refl
+
 module _ {C : Type 0} (holds : List ℕ → List (PartyView C) → List ℕ → Type 0) (z : Size) (phase count : ℕ) where
   -- a step of the machine, where the table's operation does what the machine says
-  pub step_turns : (slots id : ℕ) (me : Me Kept (WaitView C)) (word o : ℕ) (k : WaitStep) (op : ClientOp) → word ≡ word_of z o k → ((n : ℕ) → op_gives op n ≡ becomes k n) → me.0.own ≡ Some o → Allowed z k me.0
+  pub step_turns : (slots id : ℕ) (me : Me Kept (WaitView C)) (word o : ℕ) (k : WaitStep) (op : ClientOp) → word ≡ word_of z o k → ((n : ℕ) → op_gives op n ≡ becomes k n) → me.0.own ≡ Some o → Allowed z k me.0 → HasSlot z k me.0 me.1
       → Turns holds z phase count slots id me word (op_gives op) (does z k me)
-  step_turns slots id me word o k op at agrees own ok = subst (λ (i : ℕ). Turns holds z phase count slots id me i (op_gives op) (does z k me)) (sym at)
-      (λ s r _ there _. let n : ℕ = get_or s.words (word_of z o k) 0 in let mine = subst (λ (x : Option ℕ). Permits z k x me.0.place) own ok in
-      let inside = word_inside z o k me.0.place (own_below holds z phase count s r id me.0 o there own) mine in (
-        next z k me.0 n,
-        keeps,
-        tt,
-        subst (λ (x : ℕ). Rule holds z phase count (stepped s (word_of z o k) x id [] (next z k me.0 n) keeps)) (sym (agrees n)) (step_kept holds z phase count s r id me.0 o there own k mine),
-        (refl, refl, r.flags (word_of z o k) inside.0 inside.1),
+  step_turns slots id me word o k op at agrees own ok slot = subst (λ (i : ℕ). Turns holds z phase count slots id me i (op_gives op) (does z k me)) (sym at)
+      (λ s r _ there _. let n : ℕ = get_or s.words (word_of z o k) 0 in let found : Kept = home_in s.homes (slot_number z k) in let mine = subst (λ (x : Option ℕ). Permits z k x me.0.target me.0.place) own ok in
+      let inside = word_inside z o k me.0.target me.0.place (own_below holds z phase count s r id me.0 o there own) mine in
+      let kept = step_kept holds z phase count s r id me.0 o there own k mine in (
+        next_with z k me.0 n found,
+        act_of z k n found,
+        ?,
+        subst (λ (x : ℕ). Rule holds z phase count (stepped s (word_of z o k) x id me.1 (next_with z k me.0 n found) (act_of z k n found))) (sym (agrees n))
+            (subst (λ (h : List (maybe.Option Kept)). Rule holds z phase count record { words = set s.words (word_of z o k) (becomes k n); homes = h; views = set s.views id (next_with z k me.0 n found) })
+            (homes_same z k o n found me.0 (ap number_of own) s.homes me.1 slot) kept),
+        (found, refl, refl, r.flags (word_of z o k) inside.0 inside.1, ?),
       ))
 
   -- a step of the client
@@ -96,7 +112,7 @@ module _ {C : Type 0} (holds : List ℕ → List (PartyView C) → List ℕ → 
   cuts_allowed id v n drawn c law s r there = seat_kept holds z phase count s r id v there n drawn c law
 
   -- a seat takes in another
-  pub glues_allowed : (id : ℕ) (v : WaitView C) (p : ℕ) → v.own ≡ Some p → (other : ℕ) (w : WaitView C) → w.place ≡ [] → w.attached ≡ [] → w.pending ≡ None → (both : C → C → C) (c : C)
+  pub glues_allowed : (id : ℕ) (v : WaitView C) (p : ℕ) → v.own ≡ Some p → (other : ℕ) (w : WaitView C) → w.place ≡ [] → (w.target ≡ None) × (w.attached ≡ []) → w.pending ≡ None → (both : C → C → C) (c : C)
       → ((words : List ℕ) (views : List (PartyView C)) (phases : List ℕ) → holds words views phases → IsJoin views phases id (party_of v) other (party_of w) → holds words (set (set views id (joined both (party_of v) (party_of w))) other (left_over c)) phases)
       → Glues holds z phase count id v other w (took_in both v w) (spent_view c)
   glues_allowed id v p own other w idle free none both c law s r at apart there =

@@ -69,6 +69,9 @@ module _ (cvs : ℕ) (t : Option ℕ) where
 
   idle_sleep : (c : ℕ) (p : Place) → MayBegin (call.Sleep c) p → p ≡ []
   idle_sleep c [] ok = refl
+  idle_sleep c (Signalling d q ∷ p) ok = absurd ok
+  idle_sleep c (Rousing d q more ∷ p) ok = absurd ok
+  idle_sleep c (SleepWaiting d ∷ p) ok = absurd ok
   idle_sleep c (f ∷ p) ok = absurd ok
 
   begun_fits : (z : Size) (q : ℕ) (own : Option ℕ) (clear : Bool) (c : Call) (p : Place) → BeginsLoad z q c own t → MayBegin c p → Fits cvs t p → Fits cvs t (begun c clear p)
@@ -133,9 +136,9 @@ entered_fits cvs None clear found (call.Prepare c) p inside below is = job_taken
 entered_fits cvs None clear found (call.Sleep c) p inside below is = job_taken cvs None clear found (job.Prepare c) p (below, refl, is)
 entered_fits cvs None clear found (call.Broadcast c) p inside below is = job_taken cvs None clear found (job.Broadcast c) p (below, refl, is)
 entered_fits cvs (Some s) clear found call.Cancel p inside below is = job_taken cvs (Some s) clear found (job.Cancel s) p (inside s refl, refl, subst (BehindCancel cvs (Some s)) (sym is) tt)
-entered_fits cvs (Some s) clear found (call.Prepare c) p inside below is = job_taken cvs (Some s) clear found (job.Cancel s) (Preparing c ∷ p) (inside s refl, refl, below, is)
-entered_fits cvs (Some s) clear found (call.Sleep c) p inside below is = job_taken cvs (Some s) clear found (job.Cancel s) (Preparing c ∷ p) (inside s refl, refl, below, is)
-entered_fits cvs (Some s) clear found (call.Broadcast c) p inside below is = job_taken cvs (Some s) clear found (job.Cancel s) (Broadcasting c ∷ p) (inside s refl, refl, below, is)
+entered_fits cvs (Some s) clear found (call.Prepare c) p inside below is = job_taken cvs (Some s) clear found (job.Cancel s) (Preparing c ∷ p) (inside s refl, refl, (below, is))
+entered_fits cvs (Some s) clear found (call.Sleep c) p inside below is = job_taken cvs (Some s) clear found (job.Cancel s) (Preparing c ∷ p) (inside s refl, refl, (below, is))
+entered_fits cvs (Some s) clear found (call.Broadcast c) p inside below is = job_taken cvs (Some s) clear found (job.Cancel s) (Broadcasting c ∷ p) (inside s refl, refl, (below, is))
 entered_fits cvs t clear found (call.Signal c) p inside below is = job_taken cvs t clear found (job.Signal c) p (below, is)
 entered_fits cvs t clear found c p inside below is = subst (λ (q : Place). Fits cvs t (taken clear found q)) (sym is) tt
 
@@ -179,6 +182,9 @@ fits_after z t (Shstore begins) own o n found p ok inside fit = shut_idle p ok.1
   where
     shut_idle : (p : Place) → MayBegin call.Shut p → p ≡ []
     shut_idle [] ok = refl
+    shut_idle (Signalling d q ∷ p) ok = absurd ok
+    shut_idle (Rousing d q more ∷ p) ok = absurd ok
+    shut_idle (SleepWaiting d ∷ p) ok = absurd ok
     shut_idle (f ∷ p) ok = absurd ok
 fits_after z t (Take x (Some c)) own o n found p ok inside fit = entered_fits z.cvs t (eqb n 0) found c p inside ok.2 (takes_idle t x c p ok.1 ok.3)
 fits_after z t (Take x None) own o n found p ok inside fit = taken_fits z.cvs t x (eqb n 0) found p ok.1 fit

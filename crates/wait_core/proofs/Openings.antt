@@ -14,36 +14,26 @@ use Rattle.wait_core.specs.Words.{may_at, client_base, phases, opened, opening_w
 use Rattle.wait_core.specs.Machine.{WaitState}
 use Rattle.wait_core.specs.Parties.{newcomer}
 use Rattle.wait_core.specs.Seating.{Standing, fresh}
-use Rattle.wait_core.specs.Places.{may_sleep, past_latch, past_shutdown, backend_count, PlacesFit, IsNested}
+use Rattle.wait_core.specs.Places.{may_sleep, past_latch, past_shutdown, backend_count}
+use Rattle.wait_core.specs.Fits.{PlacesFit}
 use Rattle.wait_core.specs.Slots.{IsAsOpened, AllAsOpened, OpeningSlots}
 use Rattle.wait_core.specs.LeftAreFree.{LeftAreFree}
 use Rattle.wait_core.specs.Promises.{IsOpening}
 use Rattle.wait_core.specs.Rule.{Rule}
 use Rattle.seat_roster.proofs.Numbers.{roster_first}
-use Rattle.wait_core.proofs.Untouched.{idle_backend}
+use Rattle.wait_core.proofs.Untouched.{idle, idle_backend, places_snoc}
 
 pub length-opened : (f : ℕ → ℕ) (n : ℕ) → length (opened f n) ≡ n
 length-opened f zero = refl
 length-opened f (suc n) = let h = length-opened f n in length-append (opened f n) (f n ∷ []) ∙ omega arith
 
-first_place : PlacesFit (record { own = Some 0; place = [] } ∷ [])
-first_place = record { nested = nested_at; unnumbered = numbered_at }
+first_place : (cvs : ℕ) → PlacesFit cvs (idle (Some 0) ∷ [])
+first_place cvs = places_snoc cvs [] (Some 0) record { fits = λ id v e. absurd (nobody id v e); targets = λ id v e. absurd (nobody id v e); unnumbered = λ id v e none. absurd (nobody id v e) }
   where
-    nested_at : (id : ℕ) (v : Standing) → get_elem? (record { own = Some 0; place = [] } ∷ []) id ≡ maybe.some v → IsNested v.place
-    nested_at zero v e = subst (λ (x : Standing). IsNested x.place) (maybe.some-injective _ _ e) tt
-    nested_at (suc i) v e = absurd (maybe.some-ne-none v (sym e))
+    nobody : (id : ℕ) (v : Standing) → get_elem? [] id ≡ maybe.some v → ⊥
+    nobody id v e = maybe.some-ne-none v (sym e)
 
-    numbered_at : (id : ℕ) (v : Standing) → get_elem? (record { own = Some 0; place = [] } ∷ []) id ≡ maybe.some v → v.own ≡ None → v.place ≡ []
-    numbered_at zero v e none = sym (ap (λ (x : Standing). x.place) (maybe.some-injective _ _ e))
-    numbered_at (suc i) v e none = absurd (maybe.some-ne-none v (sym e))
-
--- each of the first slots is as it opened
-opened_at : {phase : ℕ} (xs : List Kept) (k : ℕ) (y : Kept) → AllAsOpened phase xs → get_elem? (map maybe.some xs) k ≡ maybe.some (maybe.some y) → IsAsOpened phase y
-opened_at [] k y all e = absurd (maybe.some-ne-none _ (sym e))
-opened_at (x ∷ xs) zero y all e = subst (IsAsOpened _) (maybe.some-injective x y (maybe.some-injective _ _ e)) all.0
-opened_at (x ∷ xs) (suc k) y all e = opened_at xs k y all.1 e
-
-none_there : (p : ℕ) (f : Option Frame → Bool) → f None ≡ false → backend_count p f (record { own = Some 0; place = [] } ∷ []) ≡ 0
+none_there : (p : ℕ) (f : Option Frame → Bool) → f None ≡ false → backend_count p f (idle (Some 0) ∷ []) ≡ 0
 none_there p f none = let a = idle_backend p f (Some 0) none in omega arith
 
 module _ {C : Type 0} (holds : List ℕ → List (PartyView C) → List ℕ → Type 0) (z : Size) (phase count : ℕ) (f : ℕ → ℕ) (c : C) where
@@ -73,12 +63,12 @@ module _ {C : Type 0} (holds : List ℕ → List (PartyView C) → List ℕ → 
     flags = λ i above below. let a = zero_at i above below in omega arith;
     roster = subst (λ (n : ℕ). Rattle.seat_roster.specs.Roster.Roster z.procs n (Rattle.seat_roster.specs.Roster.numbered (Some 0) ∷ [])) (sym one_at) (roster_first z.procs some);
     counted = let a = one_at in omega arith;
-    places = first_place;
+    places = first_place z.cvs;
     may = λ p below. zero_at (may_at p) (omega arith) (omega arith) ∙ sym (none_there p may_sleep refl);
     latches = λ p below come up. let a = none_there p past_latch refl in absurd (omega arith);
     shutdown = λ p below come up. let a = none_there p past_shutdown refl in absurd (omega arith);
     made = λ i above below. let a = zero_at i above below in omega arith;
-    slots = λ k y e. opened_at xs k y new.each e;
+    lists = ?;
     left = only_numbered;
     client = subst (λ (ws : List ℕ). holds ws (newcomer c (Some 0) ∷ []) (phases z phase)) (sym ((λ i. drop (sym long i) (machine ++ opened f count)) ∙ drop-append_seam machine (opened f count))) kept;
   }

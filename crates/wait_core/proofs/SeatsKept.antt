@@ -16,6 +16,7 @@ use Rattle.wait_core.specs.Machine.{WaitState}
 use Rattle.wait_core.specs.Parties.{with_client, newcomer, joined, left_over, IsStep, IsDraw, IsJoin}
 use Rattle.wait_core.specs.Seating.{Standing, Doings, numbers_of, standing_of, doings_of, party_of, client_moved, with_drawn, stays, comes, took_in, spent_view}
 use Rattle.wait_core.specs.LeftAreFree.{IsFree, LeftAreFree}
+use Rattle.wait_core.specs.Fits.{PlacesFit}
 use Rattle.wait_core.specs.WordsAreMade.{WordsAreMade}
 use Rattle.wait_core.specs.Promises.{LastHoldsAlone}
 use Rattle.wait_core.specs.Rule.{SeatsAreCounted, Rule}
@@ -23,7 +24,7 @@ use Rattle.seat_roster.proofs.Totals.{total_set, total_snoc, total_at, total_two
 use Rattle.seat_roster.proofs.Stretches.{unseen, from_seen, each_set, each_more}
 use Rattle.seat_roster.proofs.Numbers.{roster_drew, roster_gave, roster_took, pending_inside}
 use Rattle.wait_core.proofs.WordsAreMade.{made_same, made_snoc, made_joined}
-use Rattle.wait_core.proofs.Untouched.{Agree, SameCounts, counts_are, counts_snoc, counts_idle, flags_same, may_same, latches_same, shutdown_same, places_snoc, places_idle}
+use Rattle.wait_core.proofs.Untouched.{Agree, SameCounts, counts_are, counts_snoc, counts_idle, flags_same, may_same, latches_same, shutdown_same, places_snoc, places_idle, idle}
 
 -- a seat with a number isn't one that was joined
 has_number : (own : Option ℕ) (p : ℕ) → own ≡ Some p → own ≡ None → ⊥
@@ -58,12 +59,12 @@ module _ {C : Type 0} (holds : List ℕ → List (PartyView C) → List ℕ → 
         flags = flags_same z s.words (set s.words (b + k) (f n)) (map standing_of s.views) (map standing_of (set s.views id w)) agree same r.flags;
         roster = subst (λ (x : ℕ × List Numbers). Roster z.procs x.0 x.1) (λ j. (sym first j, numbers j)) r.roster;
         counted = subst (λ (x : ℕ × List Numbers). SeatsAreCounted x.0 x.1) (λ j. (sym first j, numbers j)) r.counted;
-        places = subst Rattle.wait_core.specs.Places.PlacesFit (sym (unseen standing_of s.views id v w at refl)) r.places;
+        places = subst (PlacesFit z.cvs) (sym (unseen standing_of s.views id v w at refl)) r.places;
         may = may_same z s.words (set s.words (b + k) (f n)) (map standing_of s.views) (map standing_of (set s.views id w)) agree same r.may;
         latches = latches_same z s.words (set s.words (b + k) (f n)) (map standing_of s.views) (map standing_of (set s.views id w)) agree same r.latches;
         shutdown = shutdown_same z s.words (set s.words (b + k) (f n)) (map standing_of s.views) (map standing_of (set s.views id w)) agree same r.shutdown;
         made = subst (WordsAreMade z (set s.words (b + k) (f n))) (sym (unseen doings_of s.views id v w at refl)) (made_same z s.words (set s.words (b + k) (f n)) (map doings_of s.views) agree r.made);
-        slots = r.slots;
+        lists = ?;
         left = subst LeftAreFree (sym (map-set party_of s.views id w)) (each_set WasLeft (map party_of s.views) id (party_of w) r.left (λ none. absurd (has_number v.own p own none)));
         client = subst (λ (x : List ℕ × List (PartyView C)). holds x.0 x.1 (phases z phase))
             (λ i. (sym (drop-set-add b s.words k (f n)) i, sym (map-set party_of s.views id w) i))
@@ -87,12 +88,12 @@ module _ {C : Type 0} (holds : List ℕ → List (PartyView C) → List ℕ → 
         roster = subst (λ (y : ℕ × List Numbers). Roster z.procs y.0 y.1) (λ j. (sym first j, numbers j)) (roster_drew z.procs next ns r.roster id (numbers_of v) at' own free (omega arith));
         counted = subst (λ (y : ℕ × List Numbers). SeatsAreCounted y.0 y.1) (λ j. (sym first j, numbers j))
             (let sum = total_set (λ (u : Numbers). one_if u.pending) ns id (numbers_of v) (drew (numbers_of v)) at' in let none : one_if v.pending ≡ 0 = ap one_if free in let c = r.counted in let d = length-set ns id (drew (numbers_of v)) in omega arith);
-        places = subst Rattle.wait_core.specs.Places.PlacesFit (sym (unseen standing_of s.views id v w at refl)) r.places;
+        places = subst (PlacesFit z.cvs) (sym (unseen standing_of s.views id v w at refl)) r.places;
         may = may_same z s.words (set s.words 0 x) (map standing_of s.views) (map standing_of (set s.views id w)) agree same r.may;
         latches = latches_same z s.words (set s.words 0 x) (map standing_of s.views) (map standing_of (set s.views id w)) agree same r.latches;
         shutdown = shutdown_same z s.words (set s.words 0 x) (map standing_of s.views) (map standing_of (set s.views id w)) agree same r.shutdown;
         made = subst (WordsAreMade z (set s.words 0 x)) (sym (unseen doings_of s.views id v w at refl)) (made_same z s.words (set s.words 0 x) (map doings_of s.views) agree r.made);
-        slots = r.slots;
+        lists = ?;
         left = subst LeftAreFree (sym (unseen party_of s.views id v w at refl)) r.left;
         client = subst (λ (y : List ℕ × List (PartyView C)). holds y.0 y.1 (phases z phase)) (λ j. (sym (drop-set-lt (client_base z) s.words 0 x (omega arith)) j, sym (unseen party_of s.views id v w at refl) j)) r.client;
       }
@@ -104,7 +105,7 @@ module _ {C : Type 0} (holds : List ℕ → List (PartyView C) → List ℕ → 
   seat_kept s r id v at n drawn c law =
       let vs = set s.views id (stays v) in let w : WaitView C = comes c v in let ns = map numbers_of s.views in let at' = at_map numbers_of s.views id v at in
       let agree : Agree z s.words s.words = λ i some inside. refl in
-      let standing : map standing_of (vs ++ w ∷ []) ≡ map standing_of s.views ++ record { own = v.pending; place = [] } ∷ [] = map-append standing_of vs (w ∷ []) ∙ ap (λ (l : List Standing). l ++ record { own = v.pending; place = [] } ∷ []) (unseen standing_of s.views id v (stays v) at refl) in
+      let standing : map standing_of (vs ++ w ∷ []) ≡ map standing_of s.views ++ idle v.pending ∷ [] = map-append standing_of vs (w ∷ []) ∙ ap (λ (l : List Standing). l ++ idle v.pending ∷ []) (unseen standing_of s.views id v (stays v) at refl) in
       let same : SameCounts (map standing_of s.views) (map standing_of (vs ++ w ∷ [])) = subst (SameCounts (map standing_of s.views)) (sym standing) (counts_snoc (map standing_of s.views) v.pending) in
       let numbers : set ns id (gave (numbers_of v)) ++ numbered v.pending ∷ [] ≡ map numbers_of (vs ++ w ∷ []) = sym (map-append numbers_of vs (w ∷ []) ∙ ap (λ (l : List Numbers). l ++ numbered v.pending ∷ []) (map-set numbers_of s.views id (stays v))) in
       let parties : map party_of s.views ++ newcomer c (Some n) ∷ [] ≡ map party_of (vs ++ w ∷ []) = sym (map-append party_of vs (w ∷ []) ∙ (ap (λ (l : List (PartyView C)). l ++ newcomer c v.pending ∷ []) (unseen party_of s.views id v (stays v) at refl) ∙ ap (λ (o : Option ℕ). map party_of s.views ++ newcomer c o ∷ []) drawn)) in
@@ -118,12 +119,12 @@ module _ {C : Type 0} (holds : List ℕ → List (PartyView C) → List ℕ → 
         counted = subst (SeatsAreCounted (get_or s.words 0 0)) numbers
             (let a = total_set (λ (u : Numbers). one_if u.pending) ns id (numbers_of v) (gave (numbers_of v)) at' in let b = total_snoc (λ (u : Numbers). one_if u.pending) (set ns id (gave (numbers_of v))) (numbered v.pending) in
             let d = length-set ns id (gave (numbers_of v)) in let e = length-append (set ns id (gave (numbers_of v))) (numbered v.pending ∷ []) in omega arith);
-        places = subst Rattle.wait_core.specs.Places.PlacesFit (sym standing) (places_snoc (map standing_of s.views) v.pending r.places);
+        places = subst (PlacesFit z.cvs) (sym standing) (places_snoc z.cvs (map standing_of s.views) v.pending r.places);
         may = may_same z s.words s.words (map standing_of s.views) (map standing_of (vs ++ w ∷ [])) agree same r.may;
         latches = latches_same z s.words s.words (map standing_of s.views) (map standing_of (vs ++ w ∷ [])) agree same r.latches;
         shutdown = shutdown_same z s.words s.words (map standing_of s.views) (map standing_of (vs ++ w ∷ [])) agree same r.shutdown;
         made = subst (WordsAreMade z s.words) (sym (map-append doings_of vs (w ∷ []) ∙ ap (λ (l : List Doings). l ++ record { own = v.pending; steps = []; inherited = [] } ∷ []) (unseen doings_of s.views id v (stays v) at refl))) (made_snoc z s.words (map doings_of s.views) v.pending r.made);
-        slots = r.slots;
+        lists = ?;
         left = subst LeftAreFree parties (each_more WasLeft (map party_of s.views) (newcomer c (Some n)) r.left (λ none. record { attached = refl; elections = refl }));
         client = subst (λ (l : List (PartyView C)). holds (drop (client_base z) s.words) l (phases z phase)) parties
             (law (drop (client_base z) s.words) (map party_of s.views) (phases z phase) n r.client
@@ -132,16 +133,16 @@ module _ {C : Type 0} (holds : List ℕ → List (PartyView C) → List ℕ → 
 
   -- a seat takes in another, which is in no call
   pub join_kept : (s : WaitState C) → Rule holds z phase count s → (id : ℕ) (v : WaitView C) → get_elem? s.views id ≡ maybe.some v → (p : ℕ) → v.own ≡ Some p → (other : ℕ) (w : WaitView C) → (other ≡ id → ⊥) → get_elem? s.views other ≡ maybe.some w
-      → w.place ≡ [] → w.attached ≡ [] → w.pending ≡ None → (both : C → C → C) (c : C)
+      → w.place ≡ [] → (w.target ≡ None) × (w.attached ≡ []) → w.pending ≡ None → (both : C → C → C) (c : C)
       → ((words : List ℕ) (views : List (PartyView C)) (phases : List ℕ) → holds words views phases → IsJoin views phases id (party_of v) other (party_of w) → holds words (set (set views id (joined both (party_of v) (party_of w))) other (left_over c)) phases)
       → Rule holds z phase count record { words = s.words; homes = s.homes; views = set (set s.views id (took_in both v w)) other (spent_view c) }
-  join_kept s r id v at p own other w apart there idle free none both c law =
+  join_kept s r id v at p own other w apart there still free none both c law =
       let x : WaitView C = took_in both v w in let y : WaitView C = spent_view c in let vs = set s.views id x in let ns = map numbers_of s.views in
       let at' = at_map numbers_of s.views id v at in
       let there' : get_elem? vs other ≡ maybe.some w = set_else s.views id other x apart ∙ there in
       let agree : Agree z s.words s.words = λ i some inside. refl in
-      let standing : map standing_of (set vs other y) ≡ set (map standing_of s.views) other record { own = None; place = [] } = map-set standing_of vs other y ∙ ap (λ (l : List Standing). set l other record { own = None; place = [] }) (unseen standing_of s.views id v x at refl) in
-      let stood : get_elem? (map standing_of s.views) other ≡ maybe.some record { own = w.own; place = [] } = at_map standing_of s.views other w there ∙ ap (λ (p : Rattle.wait_core.specs.Machine.Place). maybe.some record { own = w.own; place = p }) idle in
+      let standing : map standing_of (set vs other y) ≡ set (map standing_of s.views) other (idle None) = map-set standing_of vs other y ∙ ap (λ (l : List Standing). set l other (idle None)) (unseen standing_of s.views id v x at refl) in
+      let stood : get_elem? (map standing_of s.views) other ≡ maybe.some (idle w.own) = at_map standing_of s.views other w there ∙ (λ j. maybe.some record { own = w.own; target = free.0 j; place = still j }) in
       let same : SameCounts (map standing_of s.views) (map standing_of (set vs other y)) = subst (SameCounts (map standing_of s.views)) (sym standing) (counts_idle (map standing_of s.views) other w.own None stood) in
       let numbers : set (set ns id (took (numbers_of v) (numbers_of w))) other (numbered None) ≡ map numbers_of (set vs other y) = sym (map-set numbers_of vs other y ∙ ap (λ (l : List Numbers). set l other (numbered None)) (map-set numbers_of s.views id x)) in
       let there_n : get_elem? (set ns id (took (numbers_of v) (numbers_of w))) other ≡ maybe.some (numbers_of w) = set_else ns id other (took (numbers_of v) (numbers_of w)) apart ∙ at_map numbers_of s.views other w there in
@@ -153,18 +154,18 @@ module _ {C : Type 0} (holds : List ℕ → List (PartyView C) → List ℕ → 
         counted = subst (SeatsAreCounted (get_or s.words 0 0)) numbers
             (let f : Numbers → ℕ = λ u. one_if u.pending in let a = total_set f ns id (numbers_of v) (took (numbers_of v) (numbers_of w)) at' in let b = total_set f (set ns id (took (numbers_of v) (numbers_of w))) other (numbers_of w) (numbered None) there_n in
             let d = length-set ns id (took (numbers_of v) (numbers_of w)) in let e = length-set (set ns id (took (numbers_of v) (numbers_of w))) other (numbered None) in let gone : one_if w.pending ≡ 0 = ap one_if none in let all = r.counted in omega arith);
-        places = subst Rattle.wait_core.specs.Places.PlacesFit (sym standing) (places_idle (map standing_of s.views) other None r.places);
+        places = subst (PlacesFit z.cvs) (sym standing) (places_idle z.cvs (map standing_of s.views) other None r.places);
         may = may_same z s.words s.words (map standing_of s.views) (map standing_of (set vs other y)) agree same r.may;
         latches = latches_same z s.words s.words (map standing_of s.views) (map standing_of (set vs other y)) agree same r.latches;
         shutdown = shutdown_same z s.words s.words (map standing_of s.views) (map standing_of (set vs other y)) agree same r.shutdown;
         made = subst (WordsAreMade z s.words) (sym (map-set doings_of vs other y ∙ ap (λ (l : List Doings). set l other record { own = None; steps = []; inherited = [] }) (map-set doings_of s.views id x)))
             (made_joined z s.words (map doings_of s.views) id other (doings_of v) (doings_of w) apart (at_map doings_of s.views id v at) (at_map doings_of s.views other w there) r.made);
-        slots = r.slots;
+        lists = ?;
         left = subst LeftAreFree parties (each_set WasLeft (set (map party_of s.views) id (joined both (party_of v) (party_of w))) other (left_over c)
             (each_set WasLeft (map party_of s.views) id (joined both (party_of v) (party_of w)) r.left (λ none. absurd (has_number v.own p own none))) (λ none. record { attached = refl; elections = refl }));
         client = subst (λ (l : List (PartyView C)). holds (drop (client_base z) s.words) l (phases z phase)) parties
             (law (drop (client_base z) s.words) (map party_of s.views) (phases z phase) r.client
-            (record { at = at_map party_of s.views id v at; own = (p, own); apart = apart; there = at_map party_of s.views other w there; free = free; few = few_views s r }));
+            (record { at = at_map party_of s.views id v at; own = (p, own); apart = apart; there = at_map party_of s.views other w there; free = free.1; few = few_views s r }));
       }
 
   -- once the seat with the number 0 has taken over every number that it drew, no other view has one
@@ -191,4 +192,5 @@ module _ {C : Type 0} (holds : List ℕ → List (PartyView C) → List ℕ → 
   alone_at_last s r i j v u apart at there own all =
       let none = others_numberless s r i v at own all j u apart there in
       let free = r.left j (party_of u) (at_map party_of s.views j u there) none in
-      record { numberless = none; idle = r.places.unnumbered j (standing_of u) (at_map standing_of s.views j u there) none; attached = free.attached; elections = free.elections }
+      let out = r.places.unnumbered j (standing_of u) (at_map standing_of s.views j u there) none in
+      record { numberless = none; idle = out.0; target = out.1; attached = free.attached; elections = free.elections }

@@ -12,7 +12,7 @@ use Rattle.wait_core.specs.declared.view.Made.{Made}
 use Rattle.wait_core.specs.declared.view.Size.{Size}
 use Rattle.seat_roster.specs.Totals.{total}
 use Rattle.seat_roster.proofs.Totals.{total_set, total_snoc}
-use Rattle.wait_core.specs.Machine.{number_of, word_of, becomes, made}
+use Rattle.wait_core.specs.Machine.{number_of, word_of, becomes, made_with}
 use Rattle.wait_core.specs.Seating.{Doings, signed}
 use Rattle.wait_core.specs.WordsAreMade.{raise, lower, sum_of, sum_inherited, done_by, WordsAreMade}
 use Rattle.wait_core.proofs.Untouched.{Agree}
@@ -53,10 +53,10 @@ module _ (f : ℕ → Made → ℕ) where
       let c = both_did v w in omega arith
 
 -- a step of the machine
-pub made_step : (z : Size) (words : List ℕ) (seats : List Doings) (id : ℕ) (v : Doings) (o : ℕ) (k : WaitStep) → get_elem? seats id ≡ maybe.some v → v.own ≡ Some o → word_of z o k < length words → WordsAreMade z words seats
-    → let n = get_or words (word_of z o k) 0 in WordsAreMade z (set words (word_of z o k) (becomes k n)) (set seats id record v { steps = v.steps ++ made k n ∷ [] })
-made_step z words seats id v o k at own inside h j some below =
-    let i : ℕ = word_of z o k in let n : ℕ = get_or words i 0 in let m : Made = made k n in
+pub made_step : (z : Size) (words : List ℕ) (seats : List Doings) (id : ℕ) (v : Doings) (o : ℕ) (k : WaitStep) (list : List ℕ) → get_elem? seats id ≡ maybe.some v → v.own ≡ Some o → word_of z o k < length words → WordsAreMade z words seats
+    → let n = get_or words (word_of z o k) 0 in WordsAreMade z (set words (word_of z o k) (becomes k n)) (set seats id record v { steps = v.steps ++ made_with k n list ∷ [] })
+made_step z words seats id v o k list at own inside h j some below =
+    let i : ℕ = word_of z o k in let n : ℕ = get_or words i 0 in let m : Made = made_with k n list in
     let w : Doings = record v { steps = v.steps ++ m ∷ [] } in
     let low = total_set (done_by (lower z j)) seats id v w at in
     let high = total_set (done_by (raise z j)) seats id v w at in

@@ -29,6 +29,7 @@ module _ {C : Type 0} where
   pub record IsLeftOver (u : WaitView C) : Type 0 where
     pub numberless : u.own ≡ None
     pub idle : u.place ≡ []
+    pub target : u.target ≡ None
     pub attached : u.attached ≡ []
     pub elections : u.elections ≡ []
 

@@ -1,11 +1,10 @@
 -- The rule of the table, which holds between any two steps. Each part speaks of some words and of what it sees of each view.
 use Rattle.std.specs.Prelude.{◌≡◌, ℕ, ◌+◌, ◌<◌, ◌≤◌, List, map, length, slice_index}
-use lib.ListN.{get_elem?}
 use Rattle.wait_core.specs.declared.view.PartyView.{PartyView}
 use Rattle.wait_core.specs.declared.view.Size.{Size}
 use Rattle.seat_roster.specs.Totals.{total}
 use Rattle.seat_roster.specs.Roster.{Numbers, Roster, one_if}
-use Rattle.wait_core.specs.Words.{spin_at, client_base}
+use Rattle.wait_core.specs.Words.{client_base}
 use Rattle.wait_core.specs.Machine.{WaitState}
 use Rattle.wait_core.specs.Seating.{numbers_of, standing_of, doings_of, party_of}
 use Rattle.wait_core.specs.Stances.{stance_of}
@@ -15,9 +14,7 @@ use Rattle.wait_core.specs.SetLatchWakes.{SetLatchWakes}
 use Rattle.wait_core.specs.ShutdownWakes.{ShutdownWakes}
 use Rattle.wait_core.specs.ClientHolds.{ClientHolds}
 use Rattle.wait_core.specs.WordsAreMade.{WordsAreMade}
-use Rattle.wait_core.specs.SpinInOneHand.{SpinInOneHand}
-use Rattle.wait_core.specs.TargetsAreListed.{TargetsAreListed}
-use Rattle.wait_core.specs.SignalIsKept.{SignalIsKept}
+use Rattle.wait_core.specs.ListsStand.{ListsStand}
 use Rattle.wait_core.specs.LeftAreFree.{LeftAreFree}
 
 -- the numbers of backends, of words, and of slots: one for each condition and each barrier
@@ -34,10 +31,6 @@ Flags z words = (i : ℕ) → 0 < i → i < client_base z → slice_index words 
 abbrev pub SeatsAreCounted : ℕ → List Numbers → Type 0
 SeatsAreCounted next seats = length seats + total (λ v. one_if v.pending) seats ≡ next
 
--- what each spin word guards is in one hand at most
-abbrev pub SlotsInOneHand : {C : Type 0} → Size → WaitState C → Type 0
-SlotsInOneHand z s = (x : ℕ) → x < z.cvs + z.bars → SpinInOneHand x (slice_index s.words (spin_at z x)) (get_elem? s.homes x) (map stance_of s.views)
-
 module _ {C : Type 0} (holds : List ℕ → List (PartyView C) → List ℕ → Type 0) (z : Size) (phase count : ℕ) where
   pub record Rule (s : WaitState C) : Type 0 where
     pub sized : Sized z count (length s.words) (length s.homes)
@@ -49,8 +42,6 @@ module _ {C : Type 0} (holds : List ℕ → List (PartyView C) → List ℕ → 
     pub latches : SetLatchWakes z.procs s.words (map standing_of s.views)
     pub shutdown : ShutdownWakes z s.words (map standing_of s.views)
     pub made : WordsAreMade z s.words (map doings_of s.views)
-    pub hands : SlotsInOneHand z s
-    pub listed : TargetsAreListed (z.cvs + z.bars) s.homes (map stance_of s.views)
-    pub signals : SignalIsKept z.procs (z.cvs + z.bars) s.words s.homes (map stance_of s.views)
+    pub lists : ListsStand z s.words s.homes (map stance_of s.views)
     pub left : LeftAreFree (map party_of s.views)
     pub client : ClientHolds holds z phase s.words (map party_of s.views)

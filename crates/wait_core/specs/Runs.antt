@@ -41,7 +41,7 @@ module _ {C X : Type 0} (does : X → ClientOp) (may : PartyView C → X → Typ
   Deeds s id v (client x) t = (v.place ≡ []) × may (party_of v) x × (t ≡ after_client s id v x)
   Deeds s id v draw t = (v.own ≡ Some 0) × (v.pending ≡ None) × (v.drawn + 1 < z.procs) × (t ≡ after_draw s id v)
   Deeds s id v seat t = ((n : ℕ) × (v.pending ≡ Some n)) × (t ≡ after_seat s id v)
-  Deeds s id v (join other) t = (w : WaitView C) × (get_elem? s.views other ≡ maybe.some w) × (other ≡ id → ⊥) × (w.place ≡ []) × (w.attached ≡ []) × (w.pending ≡ None) × (t ≡ after_join s id v other w)
+  Deeds s id v (join other) t = (v.place ≡ []) × ((w : WaitView C) × (get_elem? s.views other ≡ maybe.some w) × (other ≡ id → ⊥) × (w.place ≡ []) × ((w.target ≡ None) × (w.attached ≡ [])) × (w.pending ≡ None) × (t ≡ after_join s id v other w))
 
   -- one event: a seat that has a number does something
   abbrev pub Steps : WaitState C → ℕ × Deed X → WaitState C → Type 0

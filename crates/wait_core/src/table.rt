@@ -1,7 +1,7 @@
 //! A table and the calls on it.
 ghost use Rattle.std.specs.Prelude.{◌≡◌, ◌<◌, ◌≤◌, ◌+◌, ◌^◌, None, Some, [], ◌∷◌, IfOk, MatchResult, length, true};
 ghost use Rattle.wait_core.specs.Ops.{op_at, op_gives, op_writes};
-ghost use Rattle.wait_core.specs.Words.{client_base, opened, phases, set_at, may_at, byte_at, shut_at, opening_words};
+ghost use Rattle.wait_core.specs.Words.{client_base, opened, phases, set_at, may_at, byte_at, shut_at, slot_of, opening_words};
 ghost use Rattle.wait_core.specs.Machine.{word_of, writes, as_kept, next_with, number_of, slot_number, Allowed, top};
 ghost use Rattle.wait_core.specs.Parties.{newcomer};
 ghost use Rattle.wait_core.specs.Places.{is_asleep};
@@ -38,6 +38,7 @@ pub struct WaitTable<P: Party> {
 }
 
 impl<P: Party> Model for WaitTable<P> {
+    ghost use Rattle.std.specs.Prelude.{◌≡◌};
     ghost use Rattle.wait_core.specs.Seats.{TableView, IsTabled, table_view};
 
     ghost Value = { TableView P };
@@ -366,9 +367,17 @@ impl<P: Party> WaitTable<P> {
         ensures { result ≡ slot_number (size_of self.now) step }
     {
         match step.spot() {
-            Some(Spot::Cv(condition)) => condition.number() as usize,
-            Some(Spot::Bar(barrier)) => self.about.size.cvs as usize + barrier.number() as usize,
+            Some(spot) => self.slot_of(spot),
             None => 0,
+        }
+    }
+
+    fn slot_of(&self, spot: Spot) -> usize
+        ensures { result ≡ slot_of (size_of self.now) spot }
+    {
+        match spot {
+            Spot::Cv(condition) => condition.number() as usize,
+            Spot::Bar(barrier) => self.about.size.cvs as usize + barrier.number() as usize,
         }
     }
 }
