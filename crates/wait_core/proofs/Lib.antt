@@ -10,5 +10,6 @@ pub mod WordsAreMade
 pub mod SeatsKept
 pub mod Openings
 pub mod Asks
+pub mod SeatLemmas
 pub mod Runs
 pub mod Sleepers

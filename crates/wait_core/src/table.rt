@@ -229,7 +229,7 @@ impl<P: Party> WaitTable<P> {
         requires may { P.may self.now.party (party_of seat.old.view) step }
         ensures table { (seat.new.table_id ≡ seat.old.table_id) × (seat.new.id ≡ seat.old.id) }
         ensures view { seat.new.view ≡ client_moved seat.old.view (P.after self.now.party (party_of seat.old.view) step result.old) }
-        ensures stood { Stood (P.holds self.now.party) (P.word_count self.now.party) self.now seat.old (op_at (P.does self.now.party step)) result.old }
+        ensures stood { Stood (P.holds self.now.party) (P.word_count self.now.party) self.now seat.old.id seat.old.view (op_at (P.does self.now.party step)) result.old }
         ensures changed { result.changed ≡ op_writes (P.does self.now.party step) result.old }
     {
         let op = self.about.party.op(step);

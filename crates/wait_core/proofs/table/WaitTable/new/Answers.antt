@@ -24,10 +24,12 @@ pub invariant_of-result : goal.invariant_of-result
 invariant_of-result g c =
     let z : Size = record { procs = c.args.procs; cvs = c.args.cvs; bars = c.args.bars } in (
       c.in-Ok.ensures.ok.5,
-      c.in-Ok.ensures.ok.0 ∙ (ap (λ (l : List ℕ). length l) (c.as_slice.ensures.value ∙ c.in_ok-words.ensures)
-          ∙ length-opening (g.P.Party.holds c.args.party) z c.args.opening_phase c.words-count.result (g.P.Party.opens c.args.party) (g.P.Party.first c.args.party)),
-      c.requires.procs.0,
-      c.requires.procs.1,
-      c.requires.cvs.1,
-      c.requires.bars.1,
+      record {
+        words = c.in-Ok.ensures.ok.0 ∙ (ap (λ (l : List ℕ). length l) (c.as_slice.ensures.value ∙ c.in_ok-words.ensures)
+            ∙ length-opening (g.P.Party.holds c.args.party) z c.args.opening_phase c.words-count.result (g.P.Party.opens c.args.party) (g.P.Party.first c.args.party));
+        slots = ?;
+        procs = c.requires.procs;
+        cvs = c.requires.cvs.1;
+        bars = c.requires.bars.1;
+      },
     )

@@ -17,14 +17,14 @@ pub fetch_add-requires : goal.fetch_add-requires
 fetch_add-requires g c =
     let seat = c.make-next.new.seat in
     let about = c.self.inside.about in
-    let wide = c.self.invariant.1 in
+    let wide = c.self.invariant.1.words in
     let is = c.make-next.ensures.told.0 in
     let zero_is = ap (λ (t : _). t.view.own) c.from.view_is ∙ c.requires.first in (
       search rules,
       omega arith,
       for_same _ _ c.self.invariant.0 (λ a. Turns (g.P.Party.holds a.party) a.size a.phase a.count c.self.inside.table.shared.table_id.slots seat.id seat.me 0 (λ n. (n + 1) % 2 ^ 64) (draws (step 0 0 0 0 none) seat.me))
           (draws_allowed (g.P.Party.holds about.party) about.size about.phase about.count c.self.inside.table.shared.table_id.slots seat.id seat.me (step 0 0 0 0 none) (λ n. (n + 1) % 2 ^ 64)
-          (ap (λ v. v.own) is ∙ zero_is) (ap (λ v. v.pending) is ∙ c.from.invariant.2)
+          (ap (λ v. v.own) is ∙ zero_is) (ap (λ v. v.pending) is ∙ c.from.invariant.settled)
           (let found = c.make-next.ensures.told.2 zero_is in let same = ap (λ v. v.drawn) is in let few = c.from-2.ensures in let below = c.if-next-from.false in omega arith)
           (λ n small. omega arith)),
     )
