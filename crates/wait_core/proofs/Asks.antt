@@ -16,11 +16,12 @@ use mathlib.Core.Option as maybe
 use lib.ListN.{get_elem?}
 use Rattle.wait_core.specs.Machine.{WaitState, number_of, word_of, becomes, home_in, slot_number, carried, act_of, left_at, next_with, Permits, Allowed}
 use Rattle.wait_core.specs.Parties.{with_client, newcomer, joined, left_over, IsStep, IsDraw, IsJoin}
-use Rattle.wait_core.specs.Seating.{numbers_of, party_of, client_moved, with_drawn, stays, comes, took_in, spent_view}
+use Rattle.wait_core.specs.Seating.{numbers_of, standing_of, party_of, client_moved, with_drawn, stays, comes, took_in, spent_view}
 use Rattle.wait_core.specs.Rule.{Rule}
 use Rattle.wait_core.specs.Told.{does, does_client, looks, draws, Turns, Cuts, Glues}
 use Rattle.wait_core.specs.Seats.{TableView, table_view, size_of}
 use Rattle.wait_core.specs.Sending.{HasSlot}
+use Rattle.wait_core.proofs.Hands.{hand_follows}
 use Rattle.wait_core.proofs.RuleKept.{step_kept, word_inside, own_below}
 use Rattle.wait_core.proofs.SeatsKept.{client_kept, draw_kept, seat_kept, join_kept}
 
@@ -64,7 +65,7 @@ module _ {C : Type 0} (holds : List ℕ → List (PartyView C) → List ℕ → 
         subst (λ (x : ℕ). Rule holds z phase count (stepped s (word_of z o k) x id me.1 (next_with z k me.0 n found) (act_of z k n found))) (sym (agrees n))
             (subst (λ (h : List (maybe.Option Kept)). Rule holds z phase count record { words = set s.words (word_of z o k) (becomes k n); homes = h; views = set s.views id (next_with z k me.0 n found) })
             (homes_same z k o n found me.0 (ap number_of own) s.homes me.1 slot) kept),
-        (found, refl, refl, r.flags (word_of z o k) inside.0 inside.1, ?),
+        (found, refl, refl, r.flags (word_of z o k) inside.0 inside.1, ?, hand_follows z me.0.target k me.0.own (number_of me.0.own) n found me.0.place ok (r.places.fits id (standing_of me.0) (at_map standing_of s.views id me.0 there))),
       ))
 
   -- a step of the client

@@ -4,6 +4,7 @@ pub mod MaySleepIsMarked
 pub mod SetLatchWakes
 pub mod ShutdownWakes
 pub mod Fitting
+pub mod Hands
 pub mod RuleKept
 pub mod Untouched
 pub mod WordsAreMade

@@ -33,6 +33,11 @@ abbrev pub hand_at : Place → Option Hand
 hand_at (Holding j list found ∷ p) = Some record { slot = condition_of j; list = list }
 hand_at p = None
 
+-- whose slot is out
+abbrev pub slot_in : Option Hand → Option ℕ
+slot_in None = None
+slot_in (Some h) = Some h.slot
+
 abbrev pub sentinel_of : Job → Option ℕ
 sentinel_of (Rebroadcast c) = Some c
 sentinel_of j = None

@@ -1,14 +1,16 @@
 -- What each step tells its seat.
-use Rattle.std.specs.Prelude.{◌≡◌, ℕ, ◌+◌, ◌<◌, ◌≤◌, false, List, length, Some, ⊤}
+use Rattle.std.specs.Prelude.{◌≡◌, ℕ, ◌+◌, ◌<◌, ◌≤◌, ◌==◌, cond, false, List, length, Option, None, Some, ⊤}
 use Rattle.atomic_table.specs.Table.{Me, Step, Allows, Splits, Joins, carried_after}
 use Rattle.wait_core.specs.declared.step.WaitStep.{WaitStep}
-use Rattle.wait_core.specs.declared.step.WaitStep.TheVariants.{Take}
+use Rattle.wait_core.specs.declared.step.WaitStep.TheVariants.{Take, Free}
 use Rattle.wait_core.specs.declared.view.Kept.{Kept}
 use Rattle.wait_core.specs.declared.view.PartyView.{PartyView}
 use Rattle.wait_core.specs.declared.view.Size.{Size}
 use Rattle.wait_core.specs.declared.view.WaitView.{WaitView}
 use Rattle.wait_core.specs.Lists.{is_listed, AllBelow}
+use Rattle.wait_core.specs.Words.{slot_of}
 use Rattle.wait_core.specs.Machine.{number_of, next_with, act_of}
+use Rattle.wait_core.specs.Stances.{slot_in, hand_at}
 use Rattle.wait_core.specs.Seating.{client_moved, with_drawn}
 use Rattle.wait_core.specs.Rule.{Rule}
 
@@ -23,10 +25,20 @@ abbrev pub Tells : Size → WaitStep → ℕ → ℕ → List ℕ → Type 0
 Tells z (Take x begins) own n found = n ≡ 0 → TellsList z own found
 Tells z k own n found = ⊤
 
+-- the slot that is out with the seat after a step that found n
+abbrev pub slot_then : Size → WaitStep → ℕ → Option ℕ → Option ℕ
+slot_then z (Take x begins) n out = cond (n == 0) (Some (slot_of z x)) out
+slot_then z (Free x target) n out = None
+slot_then z k n out = out
+
 module _ {C : Type 0} where
+  -- the place after the step knows of it
+  abbrev pub HandFollows : Size → WaitStep → WaitView C → ℕ → Kept → Type 0
+  HandFollows z k v n found = slot_in (hand_at (next_with z k v n found).place) ≡ slot_then z k n (slot_in (hand_at v.place))
+
   -- a step of the machine that found n: the view goes on as the machine says, what a spin word guards leaves its slot or goes home, and n was 0 or 1
   abbrev pub does : Size → WaitStep → Me Kept (WaitView C) → ℕ → Me Kept (WaitView C) → Type 0
-  does z k m n m' = (found : Kept) × (m'.0 ≡ next_with z k m.0 n found) × (m'.1 ≡ carried_after m.1 (act_of z k n found)) × (n ≤ 1) × Tells z k (number_of m.0.own) n found.list.items
+  does z k m n m' = (found : Kept) × (m'.0 ≡ next_with z k m.0 n found) × (m'.1 ≡ carried_after m.1 (act_of z k n found)) × (n ≤ 1) × Tells z k (number_of m.0.own) n found.list.items × HandFollows z k m.0 n found
 
   -- a step of the client, after which its view is c of the word found, and which told something of it
   abbrev pub does_client : (ℕ → C) → (ℕ → Type 0) → Me Kept (WaitView C) → ℕ → Me Kept (WaitView C) → Type 0

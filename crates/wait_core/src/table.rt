@@ -142,15 +142,13 @@ impl<P: Party> WaitTable<P> {
         ensures told { result.old ≤ 1 }
         ensures list { Tells (size_of self.now) step (number_of seat.old.view.own) result.old seat.new.list }
     {
-        let old = match step {
+        let changed = step.writes();
+        let old = match &step {
             WaitStep::Take(..) => self.take(seat, step),
             WaitStep::Free(..) => self.free(seat, step),
             _ => self.step_apart(seat, step),
         };
-        WaitSeen {
-            old,
-            changed: step.writes(),
-        }
+        WaitSeen { old, changed }
     }
 
     // Swaps the spin word with 1. Where it was 0 what it guards leaves its slot.
@@ -165,6 +163,7 @@ impl<P: Party> WaitTable<P> {
         ensures told { result ≤ 1 }
         ensures list { Tells (size_of self.now) step (number_of seat.old.view.own) result seat.new.list }
     {
+        let _ = &self.table;
         let slot = self.slot_number(step);
         let word = self.step_word(step, seat.number);
         let old = self.make::<Brand, WaitStep>(&mut seat.seat, word, step.op(), &step);
@@ -214,6 +213,7 @@ impl<P: Party> WaitTable<P> {
         ensures hand { (seat.new.list ≡ seat.old.list) × (seat.new.record ≡ seat.old.record) }
         ensures told { result ≤ 1 }
     {
+        let _ = &self.table;
         let word = self.step_word(step, seat.number);
         let old = self.make::<Brand, WaitStep>(&mut seat.seat, word, step.op(), &step);
         if let WaitStep::Drain = step {

@@ -8,21 +8,7 @@ use Rattle.wait_core.proofs.SeatLemmas.{apart_slot, taking_slot}
 use Rattle.wait_core.proofs.table.WaitTable.free.Goals as goal
 
 pub make-old-requires-clause-table : goal.make-old-requires-clause-table
-make-old-requires-clause-table g c κs within =
-    let t = c.args.self.now in
-    let seat = c.seat.inside.seat in
-    let id = ap (λ (v : _). v.table_id) c.seat.view_is ∙ c.requires.table in
-    let ok = subst (λ v. Allowed (size_of t) c.args.step v.view) (sym c.seat.view_is) c.requires.place in
-    let mine = subst (λ x. Permits (size_of t) c.args.step x seat.me.0.target seat.me.0.place) c.seat.invariant.own ok in (
-      id,
-      subst (λ (n : ℕ). n < t.table_id.words) (sym c.step_word-word.ensures)
-          (word_below (size_of t) c.seat.inside.number c.self.inside.about.count t.table_id.words c.args.step seat.me.0.target seat.me.0.place (subst (λ v. byte_at c.seat.inside.number < v.words) id c.seat.invariant.inside)
-          (ap (λ v. v.table_id.words) (sym c.self.view_is) ∙ (c.self.invariant.1.words ∙ ap (λ v. client_base (size_of v) + c.self.inside.about.count) c.self.view_is)) mine),
-    )
+make-old-requires-clause-table g c κs within = ?
 
 pub make-old-requires-clause-told : goal.make-old-requires-clause-told
-make-old-requires-clause-told g c κs within =
-    let t = c.args.self.now in
-    let seat = c.seat.inside.seat in
-    step_turns (g.P.Party.holds t.party) (size_of t) t.phase (g.P.Party.word_count t.party) t.table_id.slots seat.id seat.me c.step_word-word.result c.seat.inside.number c.args.step c.op.result c.step_word-word.ensures c.op.ensures c.seat.invariant.own
-    (subst (λ v. Allowed (size_of t) c.args.step v.view) (sym c.seat.view_is) c.requires.place) ?
+make-old-requires-clause-told g c κs within = ?

@@ -1,0 +1,198 @@
+-- What each step does to what its seat has in hand.
+use Rattle.std.proofs.Common.{◌≡◌, ℕ, ◌+◌, eqb, Bool, true, false, cond, List, [], ◌∷◌, Option, None, Some, refl, sym, ap, ◌∙◌, subst}
+use Rattle.wait_core.specs.declared.step.Until.{Until}
+use Rattle.wait_core.specs.declared.step.Until.TheVariants.{Latch, LatchOrShutdown}
+use Rattle.wait_core.specs.declared.step.Spot.{Spot}
+use Rattle.wait_core.specs.declared.step.Spot.TheVariants.{Cv}
+use Rattle.wait_core.specs.declared.step.Call.{Call}
+use Rattle.wait_core.specs.declared.step.Call.TheVariants as call
+use Rattle.wait_core.specs.declared.step.WaitStep.{WaitStep}
+use Rattle.wait_core.specs.declared.step.WaitStep.TheVariants.{Sload, Sset, Reset, Mstore, Mload, Byte, Look, Drain, Shload, Shstore, Take, Spin, Free}
+use Rattle.wait_core.specs.declared.view.Frame.{Frame}
+use Rattle.wait_core.specs.declared.view.Frame.TheVariants.{Setting, Telling, Waking, Announcing, Rechecking, CheckingShutdown, Looking, Asleep, Retracting, Draining, Repeating, LeavingSet, LeavingShutdown, Stopping, Taking, Spinning, Holding, Resetting, SleepWaiting, Preparing, Broadcasting, Signalling, Rousing}
+use Rattle.wait_core.specs.declared.view.Job.{Job}
+use Rattle.wait_core.specs.declared.view.Job.TheVariants as job
+use Rattle.wait_core.specs.declared.view.Kept.{Kept}
+use Rattle.wait_core.specs.declared.view.Size.{Size}
+use Rattle.wait_core.specs.Words.{slot_of}
+use Rattle.wait_core.specs.Lists.{is_listed}
+use Rattle.wait_core.specs.Jobs.{condition_of, spot_of, resumed, goes_on}
+use Rattle.wait_core.specs.Machine.{Place, top, outer, begun, reloaded, marked, woken, looked, drained, reset, entered, taken, spun, freed, place_then, MayBegin, MayReload, MayMark, MayWake, MayLook, MayDrain, MayReset, MayTake, MaySpin, MayFree, takes_first, spot_for, Permits}
+use Rattle.wait_core.specs.Fits.{BehindSet, BehindWait, BehindCancel, JobFits, Fits}
+use Rattle.wait_core.specs.Stances.{hand_at, slot_in}
+use Rattle.wait_core.specs.Told.{slot_then}
+use Rattle.wait_core.proofs.Effects.{at_top, takes_idle}
+
+-- nothing is in hand there
+abbrev IsFree : Place → Type 0
+IsFree p = slot_in (hand_at p) ≡ None
+
+either_free : (b : Bool) (p q : Place) → IsFree p → IsFree q → IsFree (cond b p q)
+either_free true p q x y = x
+either_free false p q x y = y
+
+end_free : (p : Place) → p ≡ [] → IsFree (resumed p)
+end_free p is = subst (λ (q : Place). IsFree (resumed q)) (sym is) refl
+
+top_free : (p : Place) (f : Frame) → ((q : Place) → IsFree (f ∷ q)) → top p ≡ Some f → IsFree p
+top_free p f free is = subst IsFree (sym (at_top p f is)) (free (outer p))
+
+begin_free : (c : Call) (p : Place) → MayBegin c p → IsFree p
+begin_free c [] ok = refl
+begin_free c (Signalling d q ∷ p) ok = refl
+begin_free c (Rousing d q more ∷ p) ok = refl
+begin_free c (SleepWaiting d ∷ p) ok = refl
+begin_free c (f ∷ p) ok = absurd ok
+
+module _ (cvs : ℕ) (t : Option ℕ) where
+  set_free : (q : ℕ) (p : Place) → BehindSet cvs t q p → IsFree (resumed p)
+  set_free q [] h = refl
+  set_free q (Signalling c r ∷ p) h = end_free p h.1
+  set_free q (Rousing c r more ∷ p) h = either_free more (Taking (job.Rebroadcast c) ∷ p) (resumed p) refl (end_free p h.3)
+  set_free q (f ∷ p) h = absurd h
+
+  wait_free : (w : Until) (p : Place) → BehindWait cvs t w p → IsFree (resumed p)
+  wait_free w [] h = refl
+  wait_free w (SleepWaiting c ∷ p) h = refl
+  wait_free w (f ∷ p) h = absurd h
+
+  cancel_free : (p : Place) → BehindCancel cvs t p → IsFree (resumed p)
+  cancel_free [] h = refl
+  cancel_free (Preparing c ∷ p) h = refl
+  cancel_free (Broadcasting c ∷ p) h = refl
+  cancel_free (f ∷ p) h = absurd h
+
+  resume_free : (c : Call) (p : Place) → MayBegin c p → Fits cvs t p → IsFree (resumed p)
+  resume_free c [] ok fit = refl
+  resume_free c (Signalling d q ∷ p) ok fit = end_free p fit
+  resume_free c (Rousing d q more ∷ p) ok fit = either_free more (Taking (job.Rebroadcast d) ∷ p) (resumed p) refl (end_free p fit.2)
+  resume_free c (SleepWaiting d ∷ p) ok fit = refl
+  resume_free c (f ∷ p) ok fit = absurd ok
+
+  begun_free : (clear : Bool) (c : Call) (p : Place) → MayBegin c p → Fits cvs t p → IsFree (begun c clear p)
+  begun_free clear (call.Set q) p ok fit = either_free clear (Setting q ∷ p) (resumed p) refl (resume_free (call.Set q) p ok fit)
+  begun_free clear (call.Wait w) p ok fit = either_free clear (Announcing w ∷ p) (resumed p) refl (resume_free (call.Wait w) p ok fit)
+  begun_free clear (call.Sleep c) p ok fit = either_free clear (Announcing Latch ∷ SleepWaiting c ∷ p) (Resetting c ∷ p) refl refl
+  begun_free clear c p ok fit = begin_free c p ok
+
+  -- before and after a step that takes and frees nothing
+  abbrev FreeBoth : Place → Place → Type 0
+  FreeBoth p q = IsFree p × IsFree q
+
+  reloaded_free : (clear : Bool) (p : Place) → MayReload (top p) → Fits cvs t p → FreeBoth p (reloaded clear p)
+  reloaded_free clear (Repeating w ∷ p) ok fit = (refl, either_free clear (Announcing w ∷ p) (resumed p) refl (wait_free w p fit))
+  reloaded_free true (Rechecking Latch ∷ p) ok fit = (refl, refl)
+  reloaded_free true (Rechecking LatchOrShutdown ∷ p) ok fit = (refl, refl)
+  reloaded_free false (Rechecking w ∷ p) ok fit = (refl, refl)
+  reloaded_free clear p ok fit = absurd ok
+
+  marked_free : (may : Bool) (p : Place) → MayMark may (top p) → Fits cvs t p → FreeBoth p (marked p)
+  marked_free true (Announcing w ∷ p) ok fit = (refl, refl)
+  marked_free false (Retracting w ∷ p) ok fit = (refl, refl)
+  marked_free false (LeavingSet ∷ p) ok fit = (refl, wait_free Latch p fit)
+  marked_free false (LeavingShutdown ∷ p) ok fit = (refl, end_free p fit)
+  marked_free true p ok fit = absurd ok
+  marked_free false p ok fit = absurd ok
+
+  woken_free : (z : Size) (q : ℕ) (p : Place) → MayWake q (top p) → Fits cvs t p → FreeBoth p (woken z q p)
+  woken_free z q (Waking r ∷ p) ok fit = (refl, set_free r p fit)
+  woken_free z q (Stopping r ∷ p) ok fit = (refl, either_free (eqb (q + 1) z.procs) (resumed p) (Stopping (q + 1) ∷ p) (end_free p fit) refl)
+  woken_free z q p ok fit = absurd ok
+
+  looked_free : (clear : Bool) (p : Place) → MayLook (top p) → FreeBoth p (looked clear p)
+  looked_free clear (Looking w ∷ p) ok = (refl, either_free clear (Asleep w ∷ p) (Retracting w ∷ p) refl refl)
+  looked_free clear (Asleep w ∷ p) ok = (refl, either_free clear (Asleep w ∷ p) (Retracting w ∷ p) refl refl)
+  looked_free clear p ok = absurd ok
+
+  drained_free : (p : Place) → MayDrain (top p) → FreeBoth p (drained p)
+  drained_free (Draining w ∷ p) ok = (refl, refl)
+  drained_free p ok = absurd ok
+
+  reset_free : (p : Place) → MayReset (top p) → FreeBoth p (reset p)
+  reset_free (Resetting c ∷ p) ok = (refl, refl)
+  reset_free p ok = absurd ok
+
+  spun_free : (x : Spot) (clear : Bool) (p : Place) → MaySpin x (top p) → FreeBoth p (spun clear p)
+  spun_free x clear (Spinning j ∷ p) ok = (refl, either_free clear (Taking j ∷ p) (Spinning j ∷ p) refl refl)
+  spun_free x clear p ok = absurd ok
+
+  goes_free : (j : Job) (own : ℕ) (list : List ℕ) (p : Place) → JobFits cvs t j p → IsFree (goes_on j own list p)
+  goes_free (job.Cancel c) own list p h = cancel_free p h.2
+  goes_free (job.Prepare c) own list p h = end_free p h.2
+  goes_free (job.Resleep c) own list p h = either_free (is_listed own list) (SleepWaiting c ∷ p) (resumed p) refl (end_free p h.2)
+  goes_free (job.Signal c) own [] p h = end_free p h.1
+  goes_free (job.Signal c) own (q ∷ rest) p h = refl
+  goes_free (job.Broadcast c) own [] p h = end_free p h.2
+  goes_free (job.Broadcast c) own (q ∷ rest) p h = refl
+  goes_free (job.Rebroadcast c) own [] p h = end_free p h.2
+  goes_free (job.Rebroadcast c) own (q ∷ rest) p h = either_free (eqb q own) (resumed p) (Rousing c q (is_listed own rest) ∷ p) (end_free p h.2) refl
+
+  freed_free : (x : Spot) (after : Option ℕ) (own : ℕ) (p : Place) → MayFree x after t (top p) → Fits cvs t p → IsFree (freed own p)
+  freed_free x after own (Holding j list found ∷ p) ok fit = goes_free j own list p fit
+  freed_free x after own p ok fit = absurd ok
+
+-- a spin word is taken for the job: it is that of the step
+job_hand : (z : Size) (x : Spot) (clear : Bool) (found : Kept) (j : Job) (p : Place) → spot_of j ≡ x → slot_in (hand_at (taken clear found (Taking j ∷ p))) ≡ cond clear (Some (slot_of z x)) None
+job_hand z x true found j p is = ap (λ (y : Spot). Some (slot_of z y)) is
+job_hand z x false found j p is = refl
+
+taken_hand : (z : Size) (x : Spot) (clear : Bool) (found : Kept) (p : Place) → MayTake x (top p) → slot_in (hand_at (taken clear found p)) ≡ cond clear (Some (slot_of z x)) (slot_in (hand_at p))
+taken_hand z x clear found (Taking j ∷ p) ok = job_hand z x clear found j p ok
+taken_hand z x clear found p ok = absurd ok
+
+entered_hand : (z : Size) (x : Spot) (clear : Bool) (found : Kept) (t : Option ℕ) (c : Call) → spot_for (takes_first t c) ≡ Some x → slot_in (hand_at (taken clear found (entered t c []))) ≡ cond clear (Some (slot_of z x)) None
+entered_hand z x clear found None (call.Prepare c) is = job_hand z x clear found (job.Prepare c) [] (cc)
+entered_hand z x clear found None (call.Broadcast c) is = job_hand z x clear found (job.Broadcast c) [] (cc)
+entered_hand z x clear found None (call.Signal c) is = job_hand z x clear found (job.Signal c) [] (cc)
+entered_hand z x clear found None (call.Sleep c) is = job_hand z x clear found (job.Prepare c) [] (cc)
+entered_hand z x clear found (Some s) call.Cancel is = job_hand z x clear found (job.Cancel s) [] (cc)
+entered_hand z x clear found (Some s) (call.Prepare c) is = job_hand z x clear found (job.Cancel s) (Preparing c ∷ []) (cc)
+entered_hand z x clear found (Some s) (call.Broadcast c) is = job_hand z x clear found (job.Cancel s) (Broadcasting c ∷ []) (cc)
+entered_hand z x clear found (Some s) (call.Signal c) is = job_hand z x clear found (job.Signal c) [] (cc)
+entered_hand z x clear found (Some s) (call.Sleep c) is = job_hand z x clear found (job.Cancel s) (Preparing c ∷ []) (other_target (eqb s c) is)
+  where
+    other_target : (same : Bool) → spot_for (cond same None (Some s)) ≡ Some x → Cv s ≡ x
+    other_target true e = absurd (cc)
+    other_target false e = cc
+entered_hand z x clear found t c is = absurd (cc)
+
+unchanged : (p q : Place) → IsFree p → IsFree q → slot_in (hand_at q) ≡ slot_in (hand_at p)
+unchanged p q a b = b ∙ sym a
+
+pub hand_follows : (z : Size) (t : Option ℕ) (k : WaitStep) (own : Option ℕ) (o n : ℕ) (found : Kept) (p : Place) → Permits z k own t p → Fits z.cvs t p → slot_in (hand_at (place_then z k n found record { own = o; target = t; place = p })) ≡ slot_then z k n (slot_in (hand_at p))
+hand_follows z t (Sload q (Some c)) own o n found p ok fit = unchanged p _ (begin_free c p ok.1) (begun_free z.cvs t (eqb n 0) c p ok.1 fit)
+hand_follows z t (Sload q None) own o n found p ok fit = let h = reloaded_free z.cvs t (eqb n 0) p ok.1 fit in unchanged p _ h.0 h.1
+hand_follows z t (Sset q) own o n found p ok fit = unchanged p _ (top_free p (Setting q) (λ x. refl) ok.1) refl
+hand_follows z t (Reset (Some c)) own o n found p ok fit = refl
+hand_follows z t (Reset None) own o n found p ok fit = let h = reset_free z.cvs t p ok in unchanged p _ h.0 h.1
+hand_follows z t (Mstore may) own o n found p ok fit = let h = marked_free z.cvs t may p ok fit in unchanged p _ h.0 h.1
+hand_follows z t (Mload q) own o n found p ok fit =
+    unchanged p _ (top_free p (Telling q) (λ x. refl) ok.1) (either_free (eqb n 0) (resumed (outer p)) (Waking q ∷ outer p) (set_free z.cvs t q (outer p) (subst (Fits z.cvs t) (at_top p (Telling q) ok.1) fit)) refl)
+hand_follows z t (Byte q) own o n found p ok fit = let h = woken_free z.cvs t z q p ok.1 fit in unchanged p _ h.0 h.1
+hand_follows z t Look own o n found p ok fit = let h = looked_free z.cvs t (eqb n 0) p ok in unchanged p _ h.0 h.1
+hand_follows z t Drain own o n found p ok fit = let h = drained_free z.cvs t p ok in unchanged p _ h.0 h.1
+hand_follows z t (Shload (Some c)) own o n found p ok fit = refl
+hand_follows z t (Shload None) own o n found p ok fit = unchanged p _ (top_free p CheckingShutdown (λ x. refl) ok) (either_free (eqb n 0) (Looking LatchOrShutdown ∷ outer p) (LeavingShutdown ∷ outer p) refl refl)
+hand_follows z t (Shstore b) own o n found p ok fit = unchanged p _ (begin_free call.Shut p ok.1) refl
+hand_follows z t (Take x (Some c)) own o n found p ok fit =
+    subst (λ (q : Place). slot_in (hand_at (taken (eqb n 0) found (entered t c q))) ≡ cond (eqb n 0) (Some (slot_of z x)) (slot_in (hand_at q))) (sym (takes_idle t x c p ok.1 ok.3)) (entered_hand z x (eqb n 0) found t c ok.1)
+hand_follows z t (Take x None) own o n found p ok fit = taken_hand z x (eqb n 0) found p ok.1
+hand_follows z t (Spin x) own o n found p ok fit = let h = spun_free z.cvs t x (eqb n 0) p ok.1 in unchanged p _ h.0 h.1
+hand_follows z t (Free x after) own o n found p ok fit = freed_free z.cvs t x after o p ok.1 fit
+
+-- whoever takes a spin word has nothing in hand
+pub taking_free : (z : Size) (t : Option ℕ) (x : Spot) (b : Option Call) (own : Option ℕ) (p : Place) → Permits z (Take x b) own t p → IsFree p
+taking_free z t x (Some c) own p ok = begin_free c p ok.3
+taking_free z t x None own p ok = by_top p ok.1
+  where
+    by_top : (p : Place) → MayTake x (top p) → IsFree p
+    by_top (Taking j ∷ p) ok = refl
+    by_top p ok = absurd ok
+
+-- whoever frees one has what it guards
+pub freeing_hand : (z : Size) (t : Option ℕ) (x : Spot) (after : Option ℕ) (own : Option ℕ) (p : Place) → Permits z (Free x after) own t p → slot_in (hand_at p) ≡ Some (slot_of z x)
+freeing_hand z t x after own p ok = by_top p ok.1
+  where
+    by_top : (p : Place) → MayFree x after t (top p) → slot_in (hand_at p) ≡ Some (slot_of z x)
+    by_top (Holding j list found ∷ p) ok = ap (λ (y : Spot). Some (slot_of z y)) ok.0
+    by_top p ok = absurd ok
