@@ -162,7 +162,7 @@ unchanged p q a b = b ∙ sym a
 pub hand_follows : (z : Size) (t : Option ℕ) (k : WaitStep) (own : Option ℕ) (o n : ℕ) (found : Kept) (p : Place) → Permits z k own t p → Fits z.cvs t p → slot_in (hand_at (place_then z k n found record { own = o; target = t; place = p })) ≡ slot_then z k n (slot_in (hand_at p))
 hand_follows z t (Sload q (Some c)) own o n found p ok fit = unchanged p _ (begin_free c p ok.1) (begun_free z.cvs t (eqb n 0) c p ok.1 fit)
 hand_follows z t (Sload q None) own o n found p ok fit = let h = reloaded_free z.cvs t (eqb n 0) p ok.1 fit in unchanged p _ h.0 h.1
-hand_follows z t (Sset q) own o n found p ok fit = unchanged p _ (top_free p (Setting q) (λ x. refl) ok.1) refl
+hand_follows z t (Sset q) own o n found p ok fit = unchanged p (Telling q ∷ outer p) (top_free p (Setting q) (λ x. refl) ok.1) refl
 hand_follows z t (Reset (Some c)) own o n found p ok fit = refl
 hand_follows z t (Reset None) own o n found p ok fit = let h = reset_free z.cvs t p ok in unchanged p _ h.0 h.1
 hand_follows z t (Mstore may) own o n found p ok fit = let h = marked_free z.cvs t may p ok fit in unchanged p _ h.0 h.1
@@ -173,7 +173,7 @@ hand_follows z t Look own o n found p ok fit = let h = looked_free z.cvs t (eqb 
 hand_follows z t Drain own o n found p ok fit = let h = drained_free z.cvs t p ok in unchanged p _ h.0 h.1
 hand_follows z t (Shload (Some c)) own o n found p ok fit = refl
 hand_follows z t (Shload None) own o n found p ok fit = unchanged p _ (top_free p CheckingShutdown (λ x. refl) ok) (either_free (eqb n 0) (Looking LatchOrShutdown ∷ outer p) (LeavingShutdown ∷ outer p) refl refl)
-hand_follows z t (Shstore b) own o n found p ok fit = unchanged p _ (begin_free call.Shut p ok.1) refl
+hand_follows z t (Shstore b) own o n found p ok fit = unchanged p (Stopping 0 ∷ p) (begin_free call.Shut p ok.1) refl
 hand_follows z t (Take x (Some c)) own o n found p ok fit =
     subst (λ (q : Place). slot_in (hand_at (taken (eqb n 0) found (entered t c q))) ≡ cond (eqb n 0) (Some (slot_of z x)) (slot_in (hand_at q))) (sym (takes_idle t x c p ok.1 ok.3)) (entered_hand z x (eqb n 0) found t c ok.1)
 hand_follows z t (Take x None) own o n found p ok fit = taken_hand z x (eqb n 0) found p ok.1

@@ -40,6 +40,11 @@ empty_slot (Some h) c carries is = absurd (cc)
 pub no_slot : (h : Option Hand) (c : List (ℕ × Kept)) → Carries h c → h ≡ None → c ≡ []
 no_slot h c carries is = empty_slot h c carries (ap slot_in is)
 
+-- the slot that is out with a seat that frees
+pub out_slot : (h : Option Hand) (c : List (ℕ × Kept)) (x : ℕ) → Carries h c → slot_in h ≡ Some x → (k : Kept) × (c ≡ (x, k) ∷ [])
+out_slot None c x carries is = absurd (cc)
+out_slot (Some h) c x carries is = let same : h.slot ≡ x = cc in (carries.0, carries.1 ∙ ap (λ (i : ℕ). (i, carries.0) ∷ []) same)
+
 -- the act on the slot leaves out with the seat what its place tells
 carries_after : (z : Size) (k : WaitStep) (n : ℕ) (found : Kept) (h g : Option Hand) (c : List (ℕ × Kept)) → (IsTaking k → slot_in h ≡ None) → Carries h c → slot_in g ≡ slot_then z k n (slot_in h) → Carries g (carried_after c (act_of z k n found))
 carries_after z (Take x b) n found h g c free carries is = by_word (eqb n 0) is
@@ -73,11 +78,6 @@ module _ {C : Type 0} where
   frees_hand z (Free x after) v ok freeing = freeing_hand z v.target x after v.own v.place ok
   frees_hand z k v ok freeing = absurd freeing
 
-  -- the slot that is out with a seat that frees
-  pub out_slot : (h : Option Hand) (c : List (ℕ × Kept)) (x : ℕ) → Carries h c → slot_in h ≡ Some x → (k : Kept) × (c ≡ (x, k) ∷ [])
-  out_slot None c x carries is = absurd (cc)
-  out_slot (Some h) c x carries is = let same : h.slot ≡ x = cc in (carries.0, carries.1 ∙ ap (λ (i : ℕ). (i, carries.0) ∷ []) same)
-
   -- a seat after a step, with its target
   pub seated_after : (z : Size) (s t : Seat Kept (WaitView C)) (number : ℕ) (target : Option ℕ) (k : WaitStep) (n : ℕ) → IsSeated s number target → Allowed z k s.me.0 → t.table_id ≡ s.table_id → does z k s.me n t.me → IsSeated t number (target_then k target)
   seated_after z s t number target k n h ok table told =
@@ -99,3 +99,56 @@ module _ {C : Type 0} where
         inside = omega arith;
         target_is = h.target_is ∙ ap (λ (m : Me Kept (WaitView C)). m.0.target) (sym me);
       }
+
+-- a step that takes a spin word changes no target, and nor does one that neither takes nor frees one
+taking_target : (k : WaitStep) (target : Option ℕ) → IsTaking k → target_then k target ≡ target
+taking_target (Take x b) target taking = refl
+taking_target k target taking = absurd taking
+
+apart_target : (k : WaitStep) (target : Option ℕ) → IsApart k → target_then k target ≡ target
+apart_target (Take x b) target apart = absurd apart
+apart_target (Free x after) target apart = absurd apart
+apart_target k target apart = refl
+
+taking_out : (z : Size) (k : WaitStep) (n : ℕ) (out : Option ℕ) → IsTaking k → n ≡ 0 → slot_then z k n out ≡ Some (slot_number z k)
+taking_out z (Take x b) n out taking zero_is = ap (λ (b : Bool). cond b (Some (slot_of z x)) out) (eq-eqb n 0 zero_is)
+taking_out z k n out taking zero_is = absurd taking
+
+taking_act : (z : Size) (k : WaitStep) (n : ℕ) (found : Kept) → IsTaking k → n ≡ 0 → act_of z k n found ≡ takes (slot_number z k) found
+taking_act z (Take x b) n found taking zero_is = ap (λ (b : Bool). cond b (takes (slot_of z x) found) keeps) (eq-eqb n 0 zero_is)
+taking_act z k n found taking zero_is = absurd taking
+
+module _ {C : Type 0} (z : Size) (s t : Seat Kept (WaitView C)) (number : ℕ) (target : Option ℕ) (k : WaitStep) (n slot : ℕ) (h : IsSeated s number target) (ok : Allowed z k s.me.0) (table : t.table_id ≡ s.table_id) (told : does z k s.me n t.me) where
+  pub seated_apart : IsApart k → IsSeated t number target
+  seated_apart apart = subst (IsSeated t number) (apart_target k target apart) (seated_after z s t number target k n h ok table told)
+
+  -- AFTER A TAKE, and after what was taken was moved into the seat
+  module _ (taking : IsTaking k) (at : slot ≡ slot_number z k) where
+    pub seated_taken : IsSeated t number target
+    seated_taken = subst (IsSeated t number) (taking_target k target taking) (seated_after z s t number target k n h ok table told)
+
+    pub taken_slot : n ≡ 0 → (x : Kept) × (t.me.1 ≡ (slot, x) ∷ rest t.me.1)
+    taken_slot zero_is = let now : t.me.1 ≡ (slot_number z k, told.0) ∷ s.me.1 = told.2 ∙ ap (carried_after s.me.1) (taking_act z k n told.0 taking zero_is) in
+        (told.0, now ∙ (λ i. (sym at i, told.0) ∷ rest (sym now i)))
+
+    pub seated_emptied : (x : Seat Kept (WaitView C)) (left : Kept) → n ≡ 0 → x.table_id ≡ t.table_id → x.me ≡ (t.me.0, (slot, left) ∷ rest t.me.1) → IsSeated x number target
+    seated_emptied x left zero_is again is = seated_swapped t x number slot target left seated_taken (ap (λ (v : WaitView C). slot_in (hand_at v.place)) told.1 ∙ (told.5 ∙ (taking_out z k n (slot_in (hand_at s.me.0.place)) taking zero_is ∙ ap Some (sym at)))) again is
+
+-- BEFORE A FREE: what is in hand is moved into the slot
+module _ {C : Type 0} (z : Size) (s : Seat Kept (WaitView C)) (number : ℕ) (target : Option ℕ) (k : WaitStep) (slot : ℕ) (h : IsSeated s number target) (ok : Allowed z k s.me.0) (freeing : IsFreeing k) (at : slot ≡ slot_number z k) where
+  in_hand : slot_in (hand_at s.me.0.place) ≡ Some slot
+  in_hand = frees_hand z k s.me.0 ok freeing ∙ ap Some (sym at)
+
+  pub freed_slot : (x : Kept) × (s.me.1 ≡ (slot, x) ∷ rest s.me.1)
+  freed_slot = let out = out_slot (hand_at s.me.0.place) s.me.1 slot h.carries in_hand in (out.0, out.1 ∙ (λ i. (slot, out.0) ∷ rest (sym out.1 i)))
+
+  module _ (u : Seat Kept (WaitView C)) (kept : Kept) (again : u.table_id ≡ s.table_id) (is : u.me ≡ (s.me.0, (slot, kept) ∷ rest s.me.1)) where
+    pub seated_filled : IsSeated u number target
+    seated_filled = seated_swapped s u number slot target kept h in_hand again is
+
+    pub filled_slot : (list : List ℕ) (found : Record) → kept ≡ as_kept list found → SendsHome k record { table_id = s.table_id; id = s.id; view = s.me.0; list = list; «record» = found } → HasSlot z k u.me.0 u.me.1
+    filled_slot list found same home = subst (λ (m : Me Kept (WaitView C)). HasSlot z k m.0 m.1) (sym is)
+        (freeing_slot z k record { table_id = s.table_id; id = s.id; view = s.me.0; list = list; «record» = found } s.me.1 slot kept freeing h.carries at same home)
+
+    pub allowed_still : Allowed z k u.me.0
+    allowed_still = subst (λ (m : Me Kept (WaitView C)). Allowed z k m.0) (sym is) ok

@@ -4,7 +4,7 @@ use Rattle.wait_core.specs.Words.{byte_at, client_base}
 use Rattle.wait_core.specs.Machine.{Allowed, Permits}
 use Rattle.wait_core.proofs.Asks.{step_turns}
 use Rattle.wait_core.proofs.RuleKept.{word_below}
-use Rattle.wait_core.proofs.SeatLemmas.{apart_slot, taking_slot}
+use Rattle.wait_core.proofs.SeatLemmas.{apart_slot, seated_apart}
 use Rattle.wait_core.proofs.table.WaitTable.step_apart.Goals as goal
 
 pub make-old-requires-clause-table : goal.make-old-requires-clause-table
@@ -26,3 +26,8 @@ make-old-requires-clause-told g c κs within =
     let seat = c.seat.inside.seat in
     step_turns (g.P.Party.holds t.party) (size_of t) t.phase (g.P.Party.word_count t.party) t.table_id.slots seat.id seat.me c.step_word-word.result c.seat.inside.number c.args.step c.op.result c.step_word-word.ensures c.op.ensures c.seat.invariant.own
     (subst (λ v. Allowed (size_of t) c.args.step v.view) (sym c.seat.view_is) c.requires.place) (apart_slot (size_of t) c.args.step seat.me.0 seat.me.1 c.requires.apart c.seat.invariant.carries)
+
+pub invariant_of-seat : goal.invariant_of-seat
+invariant_of-seat g c =
+    seated_apart (size_of c.args.self.now) c.seat.inside.seat c.make-old.new.seat _ _ c.args.step c.make-old.result 0 c.seat.invariant (subst (λ v. Allowed (size_of c.args.self.now) c.args.step v.view) (sym c.seat.view_is) c.requires.place)
+    c.make-old.ensures.table.0 c.make-old.ensures.told c.requires.apart

@@ -1,10 +1,10 @@
-use Rattle.std.proofs.Common.{◌<◌, ◌+◌, ℕ, ap, sym, ◌∙◌, subst}
+use Rattle.std.proofs.Common.{rules, ◌<◌, ◌+◌, ℕ, ap, sym, ◌∙◌, subst}
 use Rattle.wait_core.specs.Seats.{size_of}
 use Rattle.wait_core.specs.Words.{byte_at, client_base}
 use Rattle.wait_core.specs.Machine.{Allowed, Permits}
 use Rattle.wait_core.proofs.Asks.{step_turns}
 use Rattle.wait_core.proofs.RuleKept.{word_below}
-use Rattle.wait_core.proofs.SeatLemmas.{apart_slot, taking_slot}
+use Rattle.wait_core.proofs.SeatLemmas.{taking_slot, taken_slot, seated_emptied, seated_taken}
 use Rattle.wait_core.proofs.table.WaitTable.take.Goals as goal
 
 pub make-old-requires-clause-table : goal.make-old-requires-clause-table
@@ -26,3 +26,20 @@ make-old-requires-clause-told g c κs within =
     let seat = c.seat.inside.seat in
     step_turns (g.P.Party.holds t.party) (size_of t) t.phase (g.P.Party.word_count t.party) t.table_id.slots seat.id seat.me c.step_word-word.result c.seat.inside.number c.args.step c.op.result c.step_word-word.ensures c.op.ensures c.seat.invariant.own
     (subst (λ v. Allowed (size_of t) c.args.step v.view) (sym c.seat.view_is) c.requires.place) (taking_slot (size_of t) c.args.step seat.me.0 seat.me.1 c.requires.step c.seat.invariant.carries)
+
+pub exchange-kept-requires : goal.exchange-kept-requires
+exchange-kept-requires g c = (
+  search rules,
+  taken_slot (size_of c.args.self.now) c.seat.inside.seat c.make-old.new.seat _ _ c.args.step c.make-old.result _ c.seat.invariant (subst (λ v. Allowed (size_of c.args.self.now) c.args.step v.view) (sym c.seat.view_is) c.requires.place)
+      c.make-old.ensures.table.0 c.make-old.ensures.told c.requires.step c.slot_number-slot.ensures c.if-old-eq0.true,
+)
+
+pub invariant_of-seat : goal.invariant_of-seat
+invariant_of-seat g c =
+    seated_emptied (size_of c.args.self.now) c.seat.inside.seat c.make-old.new.seat _ _ c.args.step c.make-old.result _ c.seat.invariant (subst (λ v. Allowed (size_of c.args.self.now) c.args.step v.view) (sym c.seat.view_is) c.requires.place)
+    c.make-old.ensures.table.0 c.make-old.ensures.told c.requires.step c.slot_number-slot.ensures c.exchange-kept.new.seat c.nothing.result c.if-old-eq0.true c.exchange-kept.ensures.0 c.exchange-kept.ensures.3
+
+pub invariant_of-seat-else-old-eq0 : goal.invariant_of-seat-else-old-eq0
+invariant_of-seat-else-old-eq0 g c =
+    seated_taken (size_of c.args.self.now) c.seat.inside.seat c.make-old.new.seat _ _ c.args.step c.make-old.result _ c.seat.invariant (subst (λ v. Allowed (size_of c.args.self.now) c.args.step v.view) (sym c.seat.view_is) c.requires.place)
+    c.make-old.ensures.table.0 c.make-old.ensures.told c.requires.step c.slot_number-slot.ensures
