@@ -12,7 +12,7 @@ use Rattle.lw_core.specs.declared.view.View.{View}
 use Rattle.lw_core.specs.declared.view.Size.{Size}
 use Rattle.lw_core.specs.declared.view.Waiter.{Waiter}
 use Rattle.seat_roster.specs.Totals.{total}
-use Rattle.lw_core.specs.Words.{Waiters, state_at, guard_at, waiting_at, sem_at, grant_held, locked, has_flag, guarded, word_count, Opens}
+use Rattle.lw_core.specs.Words.{Waiters, state_at, guard_at, waiting_at, sem_at, grant_of, locked, has_flag, guarded, word_count, Opens}
 use Rattle.lw_core.specs.WaitLists.{AllEmpty, IsUntilFreeFirst, times, times_with, home_of, home_list}
 use Rattle.lw_core.specs.Machine.{LwState, top, outer, not_held, held, hold_in, moved, gripped, on_grant, let_go, fresh, IsInRange, number_of, lock_number, mode_in, word_of, becomes, next, carried, act_of, takes_list, sends_home, as_waiters, left_at, Allowed, after, HoldsNothing, releasing, guard_hold, guard_becomes, guard_writes}
 use Rattle.lw_core.specs.Stances.{Stance, hand_list, home_times, own_amount, downing_at, stance_of}
@@ -77,7 +77,7 @@ module _ (lawful : ℕ → List ℕ → Type 0) (z : Size) (s : LwState) (r : Ru
     -- THE RULE AFTER A STEP
     pub rule_step : (k : LwStep) → IsInRange z k → (v.own ≡ None → ⊥) → Allowed lawful k v → Rule lawful z (after z s id v k)
     rule_step k inside numbered ok =
-        let i : ℕ = word_of z (number_of v.own) k in let n : ℕ = get_or s.words i 0 in let found : List Waiter = home_list s.homes (lock_number k) in let x : ℕ = becomes k v n in
+        let i : ℕ = word_of z (number_of v.own) k in let n : ℕ = get_or s.words i 0 in let found : List Waiter = home_list s.homes (lock_number k) in let x : ℕ = becomes k n in
         let w : View = next k v n found in let homes : Homes = homes_after s.homes (carried k v) (act_of k n found) in let t = step_turn lawful z s r id v at k inside numbered ok in
         let looks = seen stance_of s.views id w (stance_of w) refl in let long = r.sized.long in let slots = r.sized.slots in
         let one = alone lawful z s r in let sounds = sound lawful z s r in let outside = out lawful z s r in
@@ -149,8 +149,8 @@ module _ (lawful : ℕ → List ℕ → Type 0) (z : Size) (s : LwState) (r : Ru
     by_kind (kind.Load l b) inside numbered ok = ((r.counts l inside.0).fits, places.nothing_back lawful z s r id v at)
     by_kind (kind.Grant l m w) inside numbered ok = ((r.counts l inside.0).fits, granted l w (get_or s.words (state_at l) 0) m (home_list s.homes l) inside.0)
     by_kind (kind.Refuse l m w) inside numbered ok = (r.counts l inside.0).fits
-    by_kind (kind.Sub l b) inside numbered ok = let n : ℕ = get_or s.words (state_at l) 0 in
-        ((r.counts l inside.0).fits, hold_here v (kind.Sub l b) l n (let_go b l (n - grant_held (mode_in l v)) (releasing b v.place)) not_held v.grants (inside_holds lawful z s r id v at l inside.0))
+    by_kind (kind.Sub l m b) inside numbered ok = let n : ℕ = get_or s.words (state_at l) 0 in
+        ((r.counts l inside.0).fits, hold_here v (kind.Sub l m b) l n (let_go b l (n - grant_of m) (releasing b v.place)) not_held v.grants (inside_holds lawful z s r id v at l inside.0))
     by_kind (kind.Peek l b) inside numbered ok = ((r.counts l inside.0).fits, places.nothing_back lawful z s r id v at)
     by_kind (kind.Guard l k o) inside numbered ok = let n : ℕ = get_or s.words (guard_at l k) 0 in
         (hold_here v (kind.Guard l k o) l n v.place (guard_hold o (hold_in l v) k n) v.grants (inside_holds lawful z s r id v at l inside.0), writes_step lawful z s r id v at l k (guard_becomes o n) inside.0 ok.0, reads_step lawful z s r id v at l k inside.0 (ok.0, ok.1, guards_held (guard_writes o) (mode_in l v) ok.2))
