@@ -37,6 +37,7 @@ use Rattle.lw_core.specs.GuardedIsLawful.{Knows}
 use Rattle.lw_core.proofs.Guarding.{knows_not_held}
 use Rattle.lw_core.proofs.Touches.{hold_here, top_is, fresh_hold, guards_held}
 use Rattle.lw_core.proofs.Roster.{roster_step, roster_draw, roster_split, roster_join}
+use Rattle.lw_core.proofs.WordsAreMade.{made_step, made_draw, made_split, made_join, made_opens}
 use Rattle.lw_core.proofs.Places.{places_step, places_draw, places_split, places_join, fresh_fits}
 use Rattle.lw_core.proofs.Places as places
 use Rattle.lw_core.proofs.Counts.{counts_step, counts_draw, counts_split, counts_join, inside_holds}
@@ -107,6 +108,7 @@ module _ (lawful : ℕ → List ℕ → Type 0) (z : Size) (s : LwState) (r : Ru
         } in record {
           sized = record { locks = r.sized.locks; procs = r.sized.procs; long = length-set s.words i x ∙ long; slots = slots_after };
           roster = roster_after;
+          made = made_step lawful z s r id v at k inside numbered ok;
           places = places_after;
           counts = counts_after;
           guarded = guards_step lawful z s r id v at k inside numbered ok;
@@ -175,6 +177,7 @@ module _ (lawful : ℕ → List ℕ → Type 0) (z : Size) (s : LwState) (r : Ru
         let same = looks ∙ sym again in record {
           sized = record { locks = r.sized.locks; procs = r.sized.procs; long = length-set s.words 0 (n + 1) ∙ long; slots = slots };
           roster = roster_draw lawful z s r id v at zero_is free more;
+          made = made_draw lawful z s r id v at;
           places = places_draw lawful z s r id v at;
           counts = counts_draw lawful z s r id v at;
           guarded = guards_draw lawful z s r id v at;
@@ -198,6 +201,7 @@ module _ (lawful : ℕ → List ℕ → Type 0) (z : Size) (s : LwState) (r : Ru
         let more = seen_more stance_of (set s.views id (stays_with v)) (comes v) in let looks = more ∙ ap (λ (xs : List Stance). xs ++ idle v.pending [] [] ∷ []) (unseen stance_of s.views id v (stays_with v) at refl) in record {
           sized = r.sized;
           roster = roster_split lawful z s r id v at;
+          made = made_split lawful z s r id v at;
           places = places_split lawful z s r id v at;
           counts = counts_split lawful z s r id v at;
           guarded = guards_split lawful z s r id v at;
@@ -224,6 +228,7 @@ module _ (lawful : ℕ → List ℕ → Type 0) (z : Size) (s : LwState) (r : Ru
         record {
           sized = r.sized;
           roster = roster_join lawful z s r id v at other w behind settled;
+          made = made_join lawful z s r id v at other w apart from;
           places = places_join lawful z s r id v at other w behind from;
           counts = counts_join lawful z s r id v at other w behind empty;
           guarded = guards_join lawful z s r id v at other w behind empty;
@@ -286,6 +291,7 @@ module _ (lawful : ℕ → List ℕ → Type 0) (z : Size) where
     opens zeros locks some procs long h many = record {
       sized = record { locks = locks; procs = procs; long = long; slots = length-map lists maybe.some ∙ many };
       roster = subst (λ (n : ℕ). Roster z.procs n (numbered (Some 0) ∷ [])) (sym h.0) (roster_first z.procs some);
+      made = made_opens z words (Some 0) h;
       places = λ id u e. first_fits id u e;
       counts = λ l below. let e = h.1 l below in let none : mode_in l (fresh (Some 0)) ≡ None = ap (λ (x : Hold). x.mode) (fresh_hold (Some 0) l) in
           let a : is_exclusive (mode_in l (fresh (Some 0))) ≡ 0 = ap is_exclusive none in let b : is_shared (mode_in l (fresh (Some 0))) ≡ 0 = ap is_shared none in

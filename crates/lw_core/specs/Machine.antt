@@ -74,7 +74,7 @@ LeavesLawful lawful h = h.wrote ≡ true → (words : List ℕ) → Agrees h wor
 
 -- the view of a seat with this number, or with none, which did nothing yet
 abbrev pub fresh : Option ℕ → View
-fresh own = record { own = own; pending = None; taken = []; drawn = 0; place = []; steps = []; holds = replicate 200 not_held; grants = 0; waits = 0; surplus = 0; pokes = 0; poked = []; downed = [] }
+fresh own = record { own = own; pending = None; taken = []; drawn = 0; place = []; steps = []; inherited = []; holds = replicate 200 not_held; grants = 0; waits = 0; surplus = 0; pokes = 0; poked = []; downed = [] }
 
 abbrev pub number_of : Option ℕ → ℕ
 number_of None = 0
