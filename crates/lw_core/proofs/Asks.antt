@@ -17,13 +17,13 @@ use Rattle.lw_core.specs.declared.step.WordOp.{WordOp}
 use Rattle.lw_core.specs.declared.view.View.{View}
 use Rattle.lw_core.specs.declared.view.Size.{Size}
 use Rattle.lw_core.specs.declared.view.Waiter.{Waiter}
-use Rattle.lw_core.specs.Words.{Waiters, state_at, grant_of, grant_held, locked, has_flag}
+use Rattle.lw_core.specs.Words.{Waiters, state_at, grant_of, locked, has_flag}
 use Rattle.lw_core.specs.WaitLists.{home_of, home_list}
 use Rattle.lw_core.specs.Machine.{LwState, mode_in, number_of, lock_number, word_of, becomes, next, takes_list, as_waiters, act_of, carried, IsInRange, Allowed, HoldsNothing}
 use Rattle.lw_core.specs.Rule.{Rule, numbers_of, seating_of}
 use Rattle.lw_core.specs.Runs.{drew_one, stays, comes, both, spent}
 use Rattle.lw_core.specs.Ops.{about, gives, op_of, Owes}
-use Rattle.lw_core.specs.Sending.{HasSlot, held_for}
+use Rattle.lw_core.specs.Sending.{HasSlot}
 use Rattle.lw_core.specs.Told.{Sat, does, looks, draws_one}
 use Rattle.seat_roster.proofs.Stretches.{at_seen}
 use Rattle.lw_core.proofs.Flags.{or_locked, or_ok, or_waiters, and_locked, and_locked_waiters}
@@ -35,12 +35,12 @@ use Rattle.lw_core.proofs.RuleKeeps as rule_keeps
 use Rattle.lw_core.proofs.RuleKeeps.{rule_step, sem_small, rule_draw, rule_split, rule_join}
 
 -- what is known of the word found, where the table's function of it is to be the machine's
-abbrev pub Bounds : LwStep → View → ℕ → Type 0
-Bounds (kind.Grant l m w) v n = n < 2 ^ 32
-Bounds (kind.Sub l b) v n = (n < 2 ^ 32) × (grant_held (mode_in l v) ≤ n)
-Bounds (kind.Post q b) v n = n < 2 ^ 32
-Bounds kind.Down v n = (1 ≤ n) × (n < 2 ^ 32)
-Bounds k v n = n < 2 ^ 64
+abbrev pub Bounds : LwStep → ℕ → Type 0
+Bounds (kind.Grant l m w) n = n < 2 ^ 32
+Bounds (kind.Sub l m b) n = (n < 2 ^ 32) × (grant_of m ≤ n)
+Bounds (kind.Post q b) n = n < 2 ^ 32
+Bounds kind.Down n = (1 ≤ n) × (n < 2 ^ 32)
+Bounds k n = n < 2 ^ 64
 
 -- where the list goes home it is the one that the seat has out; else no slot is read
 homes_same : (k : LwStep) (v : View) (n : ℕ) (found : List Waiter) (homes : List (maybe.Option Waiters)) (c : List (ℕ × Waiters)) → HasSlot k v c → homes_after homes (carried k v) (act_of k n found) ≡ homes_after homes c (act_of k n found)
@@ -64,18 +64,17 @@ valid (kind.Wake l w to) n homes c h = either_act (eqb n w)
 valid k n homes c h = tt
 
 module _ (lawful : ℕ → List ℕ → Type 0) (z : Size) where
-  enough : (s : LwState) (r : Rule lawful z s) (id l : ℕ) (v : View) → get_elem? s.views id ≡ maybe.some v → l < z.locks → (o : Option Mode) → mode_in l v ≡ o → grant_held o ≤ get_or s.words (state_at l) 0
-  enough s r id l v at inside None e = omega arith
-  enough s r id l v at inside (Some m) e = grant_below (map (mode_in l) s.views) id (get_or s.words (state_at l) 0) m (at_seen (mode_in l) s.views id v (Some m) at e) (r.counts l inside)
+  enough : (s : LwState) (r : Rule lawful z s) (id l : ℕ) (v : View) (m : Mode) → get_elem? s.views id ≡ maybe.some v → l < z.locks → mode_in l v ≡ Some m → grant_of m ≤ get_or s.words (state_at l) 0
+  enough s r id l v m at inside e = grant_below (map (mode_in l) s.views) id (get_or s.words (state_at l) 0) m (at_seen (mode_in l) s.views id v (Some m) at e) (r.counts l inside)
 
   own_below : (s : LwState) (r : Rule lawful z s) (id : ℕ) (v : View) → get_elem? s.views id ≡ maybe.some v → (o : Option ℕ) → v.own ≡ o → (o ≡ None → ⊥) → number_of o < z.procs
   own_below s r id v at None e numbered = absurd (numbered refl)
   own_below s r id v at (Some p) e numbered = own_inside lawful z s r id v at p e
 
   bounds : (s : LwState) (r : Rule lawful z s) (id : ℕ) (v : View) → get_elem? s.views id ≡ maybe.some v → (k : LwStep) → IsInRange z k → (v.own ≡ None → ⊥) → Allowed lawful k v
-      → let n = get_or s.words (word_of z (number_of v.own) k) 0 in n < 2 ^ 64 → Bounds k v n
+      → let n = get_or s.words (word_of z (number_of v.own) k) 0 in n < 2 ^ 64 → Bounds k n
   bounds s r id v at (kind.Grant l m w) inside numbered ok small = (r.counts l inside.0).fits
-  bounds s r id v at (kind.Sub l b) inside numbered ok small = ((r.counts l inside.0).fits, enough s r id l v at inside.0 (mode_in l v) refl)
+  bounds s r id v at (kind.Sub l m b) inside numbered ok small = ((r.counts l inside.0).fits, enough s r id l v m at inside.0 ok.1)
   bounds s r id v at (kind.Post q b) inside numbered ok small = sem_small lawful z s r id v at q inside.1
   bounds s r id v at kind.Down inside numbered ok small = (rule_keeps.by_kind lawful z s r id v at kind.Down inside numbered ok, sem_small lawful z s r id v at (number_of v.own) (own_below s r id v at v.own refl numbered))
   bounds s r id v at k inside numbered ok small = small
@@ -87,14 +86,14 @@ module _ (lawful : ℕ → List ℕ → Type 0) (z : Size) where
 
   -- the step k, where the table's function f of the word is the machine's
   allows : (slots id : ℕ) (me : Sat) (k : LwStep) (f : ℕ → ℕ) → IsInRange z k → (me.0.own ≡ None → ⊥) → Allowed lawful k me.0 → HasSlot k me.0 me.1
-      → ((n : ℕ) → Bounds k me.0 n → f n ≡ becomes k me.0 n) → Allows (Rule lawful z) slots id me (word_of z (number_of me.0.own) k) f (does lawful z k about me)
+      → ((n : ℕ) → Bounds k n → f n ≡ becomes k n) → Allows (Rule lawful z) slots id me (word_of z (number_of me.0.own) k) f (does lawful z k about me)
   allows slots id me k f inside numbered ok slot agrees s r _ at small =
       let own : ℕ = number_of me.0.own in let i : ℕ = word_of z own k in let n : ℕ = get_or s.words i 0 in let found : List Waiter = home_list s.homes (lock_number k) in let view : View = next k me.0 n found in (
         view,
         act_of k n found,
         valid k n s.homes me.1 (at_home s r own k inside),
         subst (λ (x : ℕ). Rule lawful z (stepped s i x id me.1 view (act_of k n found))) (sym (agrees n (bounds s r id me.0 at k inside numbered ok small)))
-            (subst (λ (x : List (maybe.Option Waiters)). Rule lawful z record { words = set s.words i (becomes k me.0 n); homes = x; views = set s.views id view }) (homes_same k me.0 n found s.homes me.1 slot) (rule_step lawful z s r id me.0 at k inside numbered ok)),
+            (subst (λ (x : List (maybe.Option Waiters)). Rule lawful z record { words = set s.words i (becomes k n); homes = x; views = set s.views id view }) (homes_same k me.0 n found s.homes me.1 slot) (rule_step lawful z s r id me.0 at k inside numbered ok)),
         (found, refl, refl, rule_keeps.by_kind lawful z s r id me.0 at k inside numbered ok, hand_follows lawful z me.0 (r.places id (seating_of me.0) (at_seen seating_of s.views id me.0 (seating_of me.0) at refl)).place k n found ok),
       )
 
@@ -133,29 +132,29 @@ subtracts : (n k : ℕ) → n < 2 ^ 32 → k ≤ n → (n + (2 ^ 64 - k)) % 2 ^ 
 subtracts n k small below = omega arith
 
 -- the table's operation does to the word what the machine says
-by_kind : (k : LwStep) (v : View) (n : ℕ) → Bounds k v n → gives (op_of k (held_for k v)) n ≡ becomes k v n
-by_kind (kind.Grant l m w) v n small = on_exchange n w (λ (b : Bool). either b ((w + grant_of m) % 2 ^ 64) n ≡ cond b (w + grant_of m) n) (λ hit. sum_fits w m (omega arith)) (λ miss. refl)
-by_kind (kind.Refuse l m w) v n h = on_exchange n w (λ (b : Bool). either b w n ≡ n) (λ hit. sym hit) (λ miss. refl)
-by_kind (kind.Sub l b) v n h = subtracts n (grant_held (mode_in l v)) h.0 h.1
-by_kind (kind.Lock l b) v n h = or_locked n
-by_kind (kind.Unlock l true) v n h = and_locked_waiters n h
-by_kind (kind.Unlock l false) v n h = and_locked n h
-by_kind (kind.Flag l) v n h = or_waiters n
-by_kind (kind.Wake l w to) v n h = on_exchange n w (λ (b : Bool). either b to n ≡ cond b to n) (λ hit. refl) (λ miss. refl)
-by_kind (kind.Post q b) v n h = omega arith
-by_kind kind.Down v n h = subtracts n 1 h.1 h.0
-by_kind (kind.SetReleaseOk l) v n h = or_ok n
-by_kind (kind.Guard l k guard.Load) v n h = refl
-by_kind k v n h = refl
+by_kind : (k : LwStep) (n : ℕ) → Bounds k n → gives (op_of k) n ≡ becomes k n
+by_kind (kind.Grant l m w) n small = on_exchange n w (λ (b : Bool). either b ((w + grant_of m) % 2 ^ 64) n ≡ cond b (w + grant_of m) n) (λ hit. sum_fits w m (omega arith)) (λ miss. refl)
+by_kind (kind.Refuse l m w) n h = on_exchange n w (λ (b : Bool). either b w n ≡ n) (λ hit. sym hit) (λ miss. refl)
+by_kind (kind.Sub l m b) n h = subtracts n (grant_of m) h.0 h.1
+by_kind (kind.Lock l b) n h = or_locked n
+by_kind (kind.Unlock l true) n h = and_locked_waiters n h
+by_kind (kind.Unlock l false) n h = and_locked n h
+by_kind (kind.Flag l) n h = or_waiters n
+by_kind (kind.Wake l w to) n h = on_exchange n w (λ (b : Bool). either b to n ≡ cond b to n) (λ hit. refl) (λ miss. refl)
+by_kind (kind.Post q b) n h = omega arith
+by_kind kind.Down n h = subtracts n 1 h.1 h.0
+by_kind (kind.SetReleaseOk l) n h = or_ok n
+by_kind (kind.Guard l k guard.Load) n h = refl
+by_kind k n h = refl
 
 -- a step of a seat, at a table whose key is its size
-pub owes : (lawful : ℕ → List ℕ → Type 0) (key z : Size) (k : LwStep) (me : Sat) (slots id own word : ℕ) (held : Option Mode) (o : WordOp) → key ≡ z → me.0.own ≡ Some own → held ≡ held_for k me.0 → IsInRange z k → Allowed lawful k me.0 → HasSlot k me.0 me.1
-    → word ≡ word_of z own k → o ≡ op_of k held → Owes lawful key slots id me word (gives o) k
-owes lawful key z k me slots id own word held o keyed mine has inside ok slot at is =
+pub owes : (lawful : ℕ → List ℕ → Type 0) (key z : Size) (k : LwStep) (me : Sat) (slots id own word : ℕ) (o : WordOp) → key ≡ z → me.0.own ≡ Some own → IsInRange z k → Allowed lawful k me.0 → HasSlot k me.0 me.1
+    → word ≡ word_of z own k → o ≡ op_of k → Owes lawful key slots id me word (gives o) k
+owes lawful key z k me slots id own word o keyed mine inside ok slot at is =
     subst (λ (x : Size). Owes lawful x slots id me word (gives o) k) (sym keyed)
     (subst (λ (i : ℕ). Owes lawful z slots id me i (gives o) k) (ap (λ (x : Option ℕ). word_of z (number_of x) k) mine ∙ sym at)
     (allows lawful z slots id me k (gives o) inside (λ none. absurd (cc)) ok slot
-    (λ n b. ap (λ (x : WordOp). gives x n) is ∙ (ap (λ (x : Option Mode). gives (op_of k x) n) has ∙ by_kind k me.0 n b))))
+    (λ n b. ap (λ (x : WordOp). gives x n) is ∙ by_kind k n b)))
 
 -- the same, of one arm's operation, where the play names the table's size
 pub owes_as : (lawful : ℕ → List ℕ → Type 0) (z y : Size) (slots id : ℕ) (me : Sat) (word : ℕ) (o arm : WordOp) (k : LwStep) → y ≡ z → o ≡ arm → Owes lawful z slots id me word (gives o) k

@@ -11,7 +11,7 @@ use Rattle.lw_core.specs.declared.view.View.{View}
 use Rattle.lw_core.specs.declared.view.Size.{Size}
 use Rattle.seat_roster.specs.Totals.{total}
 use Rattle.seat_roster.specs.Roster.{count, one_if}
-use Rattle.lw_core.specs.Words.{state_at, guard_at, grant_of, grant_held, is_free, lock_part}
+use Rattle.lw_core.specs.Words.{state_at, guard_at, grant_of, is_free, lock_part}
 use Rattle.lw_core.specs.WaitLists.{taken_from, kept_from, home_list}
 use Rattle.lw_core.specs.Machine.{LwState, Place, outer, not_held, held, hold_in, mode_in, number_of, lock_of, lock_number, IsInRange, word_of, becomes, moved, gripped, on_grant, let_go, detached, next, MayDetach, Allowed, after, HoldsNothing, releasing, guard_hold, guard_becomes}
 use Rattle.lw_core.specs.CountsHolders.{is_shared, is_exclusive, CountsHolders}
@@ -22,7 +22,7 @@ use Rattle.seat_roster.proofs.Totals.{total_map, total_sum_le}
 use Rattle.seat_roster.proofs.Stretches.{frame, seen, seen_more, at_seen, unseen, for_same}
 use Rattle.lw_core.proofs.Holders.{one_mode, counts_granted, counts_released, counts_flagged, counts_more}
 use Rattle.lw_core.proofs.Flags.{part_set, part_unlocked, part_woken, small_set, small_unlocked, small_woken}
-use Rattle.lw_core.proofs.Touches.{on_exchange, on_lock, begun_release, some_mode, hold_here, hold_else, word_apart, fresh_hold}
+use Rattle.lw_core.proofs.Touches.{on_exchange, on_lock, some_mode, hold_here, hold_else, word_apart, fresh_hold}
 use Rattle.lw_core.proofs.Places as places
 
 module _ (lawful : ℕ → List ℕ → Type 0) (z : Size) (s : LwState) (r : Rule lawful z s) where
@@ -63,7 +63,7 @@ module _ (lawful : ℕ → List ℕ → Type 0) (z : Size) (s : LwState) (r : Ru
 
     -- the lock that the step is on
     by_kind : (k : LwStep) → lock_of k ≡ Some (lock_number k) → lock_number k < z.locks → (v.own ≡ None → ⊥) → Allowed lawful k v → let n = get_or s.words (word_of z (number_of v.own) k) 0 in
-        CountsHolders (get_or (set s.words (word_of z (number_of v.own) k) (becomes k v n)) (state_at (lock_number k)) 0) (map (mode_in (lock_number k)) (set s.views id (next k v n (home_list s.homes (lock_number k)))))
+        CountsHolders (get_or (set s.words (word_of z (number_of v.own) k) (becomes k n)) (state_at (lock_number k)) 0) (map (mode_in (lock_number k)) (set s.views id (next k v n (home_list s.homes (lock_number k)))))
     by_kind (kind.Load l b) on below numbered ok = read l _ below refl
     by_kind (kind.Grant l m w) on below numbered ok = let n : ℕ = get_or s.words (state_at l) 0 in let k : LwStep = kind.Grant l m w in let now = places.tries lawful z s r id v at l w m ok.0 in
         on_exchange n w (λ (b : Bool). CountsHolders (get_or (set s.words (state_at l) (cond b (w + grant_of m) n)) (state_at l) 0) (map (mode_in l) (set s.views id (cond b (gripped v k l n (on_grant v.surplus (outer v.place)) (held m) (v.grants + 1)) (moved v k n (Trying l m n ∷ outer v.place))))))
@@ -72,9 +72,9 @@ module _ (lawful : ℕ → List ℕ → Type 0) (z : Size) (s : LwState) (r : Ru
         (counts_granted (map (mode_in l) s.views) id n m (at_seen (mode_in l) s.views id v None at now.0) (subst (λ (x : ℕ). is_free m x ≡ true) (sym hit) ok.1) (few_holders l) (r.counts l below))))
         (λ miss. read l _ below refl)
     by_kind (kind.Refuse l m w) on below numbered ok = read l _ below refl
-    by_kind (kind.Sub l b) on below numbered ok = let n : ℕ = get_or s.words (state_at l) 0 in let k : LwStep = kind.Sub l b in let is = some_mode (mode_in l v) (begun_release b l v (places.mine lawful z s r id v at).place ok.0).1 in
-        other l (n - grant_held (mode_in l v)) None _ below (ap mode_of_hold (hold_here v k l n (let_go b l (n - grant_held (mode_in l v)) (releasing b v.place)) not_held v.grants (inside_holds l below)))
-        (subst (λ (x : Option Mode). CountsHolders (n - grant_held x) (set (map (mode_in l) s.views) id None)) (sym is.1) (counts_released (map (mode_in l) s.views) id n is.0 (at_seen (mode_in l) s.views id v (Some is.0) at is.1) (r.counts l below)))
+    by_kind (kind.Sub l m b) on below numbered ok = let n : ℕ = get_or s.words (state_at l) 0 in let k : LwStep = kind.Sub l m b in
+        other l (n - grant_of m) None _ below (ap mode_of_hold (hold_here v k l n (let_go b l (n - grant_of m) (releasing b v.place)) not_held v.grants (inside_holds l below)))
+        (counts_released (map (mode_in l) s.views) id n m (at_seen (mode_in l) s.views id v (Some m) at ok.1) (r.counts l below))
     by_kind (kind.Peek l b) on below numbered ok = read l _ below refl
     by_kind (kind.Guard l k o) on below numbered ok = let n : ℕ = get_or s.words (guard_at l k) 0 in let x : ℕ = guard_becomes o n in same l (set s.words (guard_at l k) x) _ below (get_or-set_other s.words (guard_at l k) (state_at l) x 0 (λ e. omega arith))
         (ap mode_of_hold (hold_here v (kind.Guard l k o) l n v.place (guard_hold o (hold_in l v) k n) v.grants (inside_holds l below)))
@@ -98,11 +98,11 @@ module _ (lawful : ℕ → List ℕ → Type 0) (z : Size) (s : LwState) (r : Ru
     pub counts_step : (k : LwStep) → IsInRange z k → (v.own ≡ None → ⊥) → Allowed lawful k v → EachCountsHolders z (after z s id v k)
     counts_step k inside numbered ok l below =
         let i : ℕ = word_of z (number_of v.own) k in let n : ℕ = get_or s.words i 0 in let w : View = next k v n (home_list s.homes (lock_number k)) in
-        on_lock k l (CountsHolders (get_or (set s.words i (becomes k v n)) (state_at l) 0) (map (mode_in l) (set s.views id w)))
+        on_lock k l (CountsHolders (get_or (set s.words i (becomes k n)) (state_at l) 0) (map (mode_in l) (set s.views id w)))
         (λ on. let same : lock_number k ≡ l = ap number_of on in
-        subst (λ (j : ℕ). CountsHolders (get_or (set s.words i (becomes k v n)) (state_at j) 0) (map (mode_in j) (set s.views id w))) same
+        subst (λ (j : ℕ). CountsHolders (get_or (set s.words i (becomes k n)) (state_at j) 0) (map (mode_in j) (set s.views id w))) same
         (by_kind k (on ∙ ap Some (sym same)) (subst (λ (j : ℕ). j < z.locks) (sym same) below) numbered ok))
-        (λ off. frame (mode_in l) CountsHolders s.words i (becomes k v n) (state_at l) s.views id v w at (word_apart lawful z (number_of v.own) k v ok l below off (state_at l) (omega arith) (omega arith)) (ap mode_of_hold (hold_else k v n (home_list s.homes (lock_number k)) l off)) (r.counts l below))
+        (λ off. frame (mode_in l) CountsHolders s.words i (becomes k n) (state_at l) s.views id v w at (word_apart lawful z (number_of v.own) k v ok l below off (state_at l) (omega arith) (omega arith)) (ap mode_of_hold (hold_else k v n (home_list s.homes (lock_number k)) l off)) (r.counts l below))
 
     pub counts_draw : EachCountsHolders z (drawn s id v)
     counts_draw l below = same l (set s.words 0 (get_or s.words 0 0 + 1)) (drew_one v) below (get_or-set_other s.words 0 (state_at l) (get_or s.words 0 0 + 1) 0 (λ e. omega arith)) refl

@@ -72,7 +72,7 @@ module _ (lawful : ℕ → List ℕ → Type 0) (z : Size) where
       own : ℕ
       own = number_of e.view.own
 
-      by_kind : (k : LwStep) → IsInRange z k → Allowed lawful k e.view → guarded (set s.words (word_of z own k) (becomes k e.view (get_or s.words (word_of z own k) 0))) l ≡ guarded s.words l
+      by_kind : (k : LwStep) → IsInRange z k → Allowed lawful k e.view → guarded (set s.words (word_of z own k) (becomes k (get_or s.words (word_of z own k) 0))) l ≡ guarded s.words l
       by_kind (kind.Guard i j guard.Load) inside ok = ap (λ (x : List ℕ). guarded x l) (set-get_or s.words (guard_at i j) 0)
       by_kind (kind.Guard i j o) inside ok = let few = ok.0 in let x : ℕ = guard_becomes o (get_or s.words (guard_at i j) 0) in dite (ℕ_discrete l i)
           (λ is. absurd (nobody (ap (λ (y : ℕ). mode_in y e.view) is ∙ ok.2)))

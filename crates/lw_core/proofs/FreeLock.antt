@@ -20,7 +20,7 @@ use Rattle.lw_core.specs.declared.view.Frame.TheVariants.{Trying, TakingList, Sp
 use Rattle.lw_core.specs.declared.view.Hold.{Hold}
 use Rattle.lw_core.specs.declared.view.Size.{Size}
 use Rattle.lw_core.specs.declared.view.View.{View}
-use Rattle.lw_core.specs.Words.{Waiters, state_at, guard_at, grant_held, is_free, lock_part, locked, release_ok, has_waiters, has_flag, var_at}
+use Rattle.lw_core.specs.Words.{Waiters, state_at, guard_at, grant_of, is_free, lock_part, locked, release_ok, has_waiters, has_flag, var_at}
 use Rattle.lw_core.specs.WaitLists.{times, taken_from, kept_from, has_locker, home_list}
 use Rattle.lw_core.specs.Machine.{LwState, Place, outer, not_held, held, hold_in, mode_in, fresh, number_of, lock_number, IsInRange, word_of, becomes, moved, gripped, on_grant, on_refusal, calls_for_wake, let_go, after_store, in_hand, detached, posted, surplus_posted, next, MayTake, MayDetach, Allowed, after, HoldsNothing, releasing, taking, guard_hold}
 use Rattle.lw_core.specs.Stances.{Stance, hand_list, hand_at, listed, queued_at, announced_at, due_at, stance_of}
@@ -34,7 +34,7 @@ use Rattle.lw_core.specs.Runs.{drew_one, stays, both, spent, drawn, split, joine
 use Rattle.lw_core.proofs.Lists.{all_taken}
 use Rattle.lw_core.proofs.Flags.{woken_cleared, woken_emptied}
 use Rattle.lw_core.proofs.Listing.{listed_same, listed_stands, listed_comes}
-use Rattle.lw_core.proofs.Holders.{part_holds}
+use Rattle.lw_core.proofs.Holders.{none_holds}
 use Rattle.lw_core.proofs.Beside.{Beside, two_numbers, listed_there}
 use Rattle.lw_core.proofs.Touches.{on_exchange, top_is, numbers_kept, begun_release}
 use Rattle.lw_core.proofs.Places as places
@@ -57,12 +57,6 @@ no_call word part none = dite (ℕ_discrete (has_flag has_waiters word) 1)
     (λ b. let called : calls_for_wake word ≡ true = (λ i. cond (eq-eqb _ _ a i) (cond (eq-eqb _ _ b i) (eq-eqb _ _ part i) false) false) in absurd (cc))
     (λ b. inr (omega arith)))
     (λ a. inl (omega arith))
-
--- what has no grant isn't held
-unheld : (o : Option Mode) → grant_held o ≤ 0 → o ≡ None
-unheld None none = refl
-unheld (Some Shared) none = absurd (omega arith)
-unheld (Some Exclusive) none = absurd (omega arith)
 
 abbrev pub own_of : View → Option ℕ
 own_of v = v.own
@@ -119,7 +113,7 @@ module _ (lawful : ℕ → List ℕ → Type 0) (z : Size) (s : LwState) (r : Ru
   view_by k = next k v (found_by k) (home_list s.homes (lock_number k))
 
   abbrev word_by : LwStep → ℕ
-  word_by k = get_or (set s.words (word_of z (number_of v.own) k) (becomes k v (found_by k))) (state_at l) 0
+  word_by k = get_or (set s.words (word_of z (number_of v.own) k) (becomes k (found_by k))) (state_at l) 0
 
   fits : PlaceFits v.holds v.surplus v.place
   fits = (places.mine lawful z s r id v at).place
@@ -158,9 +152,9 @@ module _ (lawful : ℕ → List ℕ → Type 0) (z : Size) (s : LwState) (r : Ru
       (λ is. let word = stored_here i n is in let clear = free_part m w (ap lock_part (sym hit ∙ sym word) ∙ free) in let blocked = ok.1 in absurd (cc))
       (λ ne. goes refl (subst (λ (p : Place). Goes l p (on_refusal (outer v.place))) (sym at_top) (refused_goes l i w v.surplus m (outer v.place) ne now.2))))
       (λ miss. goes refl (subst (λ (p : Place). Goes l p (Trying i m n ∷ outer v.place)) (sym at_top) (retried_goes l i w n v.surplus m (outer v.place) now.2)))
-  by_kind (kind.Sub i b) inside ok free none = let n : ℕ = get_or s.words (state_at i) 0 in let x : ℕ = n - grant_held (mode_in i v) in dite (ℕ_discrete i l)
-      (λ is. let word = stored_here i x is in released b l x (word_by (kind.Sub i b)) v _ (releasing b v.place) (ap (λ (j : ℕ). let_go b j x (releasing b v.place)) is) word (ap lock_part (sym word) ∙ free))
-      (λ ne. goes (held_else i not_held ne) (let_go_goes l b i x v (begun_release b i v fits ok.0).0 ok.0))
+  by_kind (kind.Sub i m b) inside ok free none = let n : ℕ = get_or s.words (state_at i) 0 in let x : ℕ = n - grant_of m in dite (ℕ_discrete i l)
+      (λ is. let word = stored_here i x is in released b l x (word_by (kind.Sub i m b)) v _ (releasing b v.place) (ap (λ (j : ℕ). let_go b j x (releasing b v.place)) is) word (ap lock_part (sym word) ∙ free))
+      (λ ne. goes (held_else i not_held ne) (let_go_goes l b i x v (begun_release b i v fits ok.0) ok.0))
   by_kind (kind.Peek i (Some (call.WaitForVar j old))) inside ok free none = goes refl (peeked_goes l v.surplus j old (get_or s.words (state_at i) 0) v.place ok.1)
   by_kind (kind.Peek i None) inside ok free none = let n : ℕ = get_or s.words (state_at i) 0 in goes refl (looked_on_goes l v.holds v.surplus i n v.place ok fits
       (λ blocked is. let word = stored_here i n is in let clear = free_part Shared n (ap lock_part (sym word) ∙ free) in cc))
@@ -243,8 +237,7 @@ module _ (lawful : ℕ → List ℕ → Type 0) (z : Size) (s : LwState) (r : Ru
     kept (empties clear) free j p u there own asleep some = let none = b.flags l below clear in let more = listed_there z now b l j p u there own (committed_queued l u.place asleep) some in absurd (omega arith)
 
     stepped_free : FreeLockIsAnswered l (word_by k) now.homes now.views
-    stepped_free free = let part = part_holds (map (mode_in l) now.views) id (word_by k) (mode_in l (view_by k)) (at_seen (mode_in l) now.views id (view_by k) (mode_in l (view_by k)) view_there refl) (b.counts l below) in
-        kept (by_kind k inside ok free (unheld (mode_in l (view_by k)) (omega arith))) free
+    stepped_free free = kept (by_kind k inside ok free (none_holds (map (mode_in l) now.views) id (word_by k) (mode_in l (view_by k)) (at_seen (mode_in l) now.views id (view_by k) (mode_in l (view_by k)) view_there refl) (b.counts l below) free)) free
 
 -- A MOVE. A seat is where it was, and has its number if it sleeps for the lock or answers for it
 stands : (homes : List (maybe.Option Waiters)) (views : List View) (id l word : ℕ) (v w : View) → get_elem? views id ≡ maybe.some v → w.place ≡ v.place

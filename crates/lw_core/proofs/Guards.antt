@@ -10,7 +10,7 @@ use Rattle.lw_core.specs.declared.view.Hold.{Hold}
 use Rattle.lw_core.specs.declared.view.Frame.TheVariants.{Trying}
 use Rattle.lw_core.specs.declared.view.View.{View}
 use Rattle.lw_core.specs.declared.view.Size.{Size}
-use Rattle.lw_core.specs.Words.{state_at, guard_at, guarded, grant_of, grant_held}
+use Rattle.lw_core.specs.Words.{state_at, guard_at, guarded, grant_of}
 use Rattle.lw_core.specs.WaitLists.{home_list}
 use Rattle.lw_core.specs.Machine.{LwState, outer, not_held, held, hold_in, mode_in, known_at, learnt, written, number_of, lock_of, lock_number, IsInRange, word_of, becomes, moved, gripped, on_grant, let_go, next, Allowed, after, HoldsNothing, releasing, guard_becomes}
 use Rattle.lw_core.specs.CountsHolders.{CountsHolders}
@@ -46,14 +46,14 @@ module _ (lawful : ℕ → List ℕ → Type 0) (z : Size) (s : LwState) (r : Ru
 
   -- the lock that the step is on
   by_kind : (k : LwStep) → lock_of k ≡ Some (lock_number k) → lock_number k < z.locks → (v.own ≡ None → ⊥) → Allowed lawful k v → let n = get_or s.words (word_of z (number_of v.own) k) 0 in
-      GuardedIsLawful (lawful (lock_number k)) (guarded (set s.words (word_of z (number_of v.own) k) (becomes k v n)) (lock_number k)) (map (hold_in (lock_number k)) (set s.views id (next k v n (home_list s.homes (lock_number k)))))
+      GuardedIsLawful (lawful (lock_number k)) (guarded (set s.words (word_of z (number_of v.own) k) (becomes k n)) (lock_number k)) (map (hold_in (lock_number k)) (set s.views id (next k v n (home_list s.homes (lock_number k)))))
   by_kind (kind.Grant l m w) on below numbered ok = let n : ℕ = get_or s.words (state_at l) 0 in let k : LwStep = kind.Grant l m w in let now = places.tries lawful z s r id v at l w m ok.0 in
       on_exchange n w (λ (b : Bool). GuardedIsLawful (lawful l) (guarded (set s.words (state_at l) (cond b (w + grant_of m) n)) l) (map (hold_in l) (set s.views id (cond b (gripped v k l n (on_grant v.surplus (outer v.place)) (held m) (v.grants + 1)) (moved v k n (Trying l m n ∷ outer v.place))))))
       (λ hit. other l _ (guarded s.words l) (held m) _ (guarded_off s.words l (w + grant_of m) l) (hold_here v k l n (on_grant v.surplus (outer v.place)) (held m) (v.grants + 1) (inside_holds l below))
       (guarded_granted (lawful l) (guarded s.words l) (map (hold_in l) s.views) (r.guarded l below) id (hold_in l v) m (seen_hold l) now.0))
       (λ miss. same l _ _ below (guarded_off s.words l n l) refl)
-  by_kind (kind.Sub l b) on below numbered ok = let n : ℕ = get_or s.words (state_at l) 0 in other l _ (guarded s.words l) not_held _ (guarded_off s.words l _ l) (hold_here v (kind.Sub l b) l n (let_go b l (n - grant_held (mode_in l v)) (releasing b v.place)) not_held v.grants (inside_holds l below))
-      (guarded_released (lawful l) (guarded s.words l) (map (hold_in l) s.views) (r.guarded l below) id (hold_in l v) refl (seen_hold l) ok.1)
+  by_kind (kind.Sub l m b) on below numbered ok = let n : ℕ = get_or s.words (state_at l) 0 in other l _ (guarded s.words l) not_held _ (guarded_off s.words l _ l) (hold_here v (kind.Sub l m b) l n (let_go b l (n - grant_of m) (releasing b v.place)) not_held v.grants (inside_holds l below))
+      (guarded_released (lawful l) (guarded s.words l) (map (hold_in l) s.views) (r.guarded l below) id (hold_in l v) refl (seen_hold l) ok.2)
   by_kind (kind.Guard l k guard.Load) on below numbered ok = let n : ℕ = get_or s.words (guard_at l k) 0 in let is = some_mode (mode_in l v) ok.2 in
       other l (set s.words (guard_at l k) n) (guarded s.words l) (learnt (hold_in l v) k n) _ (ap (λ (x : List ℕ). guarded x l) (set-get_or s.words (guard_at l k) 0)) (hold_here v (kind.Guard l k guard.Load) l n v.place (learnt (hold_in l v) k n) v.grants (inside_holds l below))
       (subst (λ (x : ℕ). GuardedIsLawful (lawful l) (guarded s.words l) (set (map (hold_in l) s.views) id (learnt (hold_in l v) k x))) (guarded_at s.words l k ok.0)
@@ -62,18 +62,18 @@ module _ (lawful : ℕ → List ℕ → Type 0) (z : Size) (s : LwState) (r : Ru
       other l (set s.words (guard_at l k) x) (set (guarded s.words l) k x) (written (hold_in l v) k x) _ (guarded_set s.words l k x ok.0 (omega arith)) (hold_here v (kind.Guard l k o) l n v.place (written (hold_in l v) k x) v.grants (inside_holds l below))
       (guarded_written (lawful l) (guarded s.words l) (map (hold_in l) s.views) (r.guarded l below) id k x _ (hold_in l v) ok.0 refl (seen_hold l) ok.2 (counts_modes l below))
   by_kind (kind.Post q b) on below numbered ok = absurd (cc)
-  by_kind k on below numbered ok = let i : ℕ = word_of z (number_of v.own) k in let x : ℕ = becomes k v (get_or s.words i 0) in
+  by_kind k on below numbered ok = let i : ℕ = word_of z (number_of v.own) k in let x : ℕ = becomes k (get_or s.words i 0) in
       same (lock_number k) (set s.words i x) _ below (guarded_same (set s.words i x) s.words (lock_number k) (λ j few. get_or-set_other s.words i (guard_at (lock_number k) j) x 0 (λ e. omega arith))) refl
 
   pub guards_step : (k : LwStep) → IsInRange z k → (v.own ≡ None → ⊥) → Allowed lawful k v → EachGuardedIsLawful lawful z (after z s id v k)
   guards_step k inside numbered ok l below =
       let i : ℕ = word_of z (number_of v.own) k in let n : ℕ = get_or s.words i 0 in let w : View = next k v n (home_list s.homes (lock_number k)) in
-      on_lock k l (GuardedIsLawful (lawful l) (guarded (set s.words i (becomes k v n)) l) (map (hold_in l) (set s.views id w)))
+      on_lock k l (GuardedIsLawful (lawful l) (guarded (set s.words i (becomes k n)) l) (map (hold_in l) (set s.views id w)))
       (λ on. let here_is : lock_number k ≡ l = ap number_of on in
-      subst (λ (j : ℕ). GuardedIsLawful (lawful j) (guarded (set s.words i (becomes k v n)) j) (map (hold_in j) (set s.views id w))) here_is
+      subst (λ (j : ℕ). GuardedIsLawful (lawful j) (guarded (set s.words i (becomes k n)) j) (map (hold_in j) (set s.views id w))) here_is
       (by_kind k (on ∙ ap Some (sym here_is)) (subst (λ (j : ℕ). j < z.locks) (sym here_is) below) numbered ok))
-      (λ off. same l (set s.words i (becomes k v n)) w below
-      (guarded_same (set s.words i (becomes k v n)) s.words l (λ j few. get_or-set_other s.words i (guard_at l j) (becomes k v n) 0 (word_apart lawful z (number_of v.own) k v ok l below off (guard_at l j) (omega arith) (omega arith))))
+      (λ off. same l (set s.words i (becomes k n)) w below
+      (guarded_same (set s.words i (becomes k n)) s.words l (λ j few. get_or-set_other s.words i (guard_at l j) (becomes k n) 0 (word_apart lawful z (number_of v.own) k v ok l below off (guard_at l j) (omega arith) (omega arith))))
       (hold_else k v n (home_list s.homes (lock_number k)) l off))
 
   -- what a read tells

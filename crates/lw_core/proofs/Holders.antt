@@ -6,7 +6,7 @@ use lib.ListN.{get_elem?}
 use Rattle.proc_table.specs.declared.Mode.{Mode}
 use Rattle.proc_table.specs.declared.Mode.TheVariants.{Shared, Exclusive}
 use Rattle.seat_roster.specs.Totals.{total}
-use Rattle.lw_core.specs.Words.{grant_of, grant_held, is_free, lock_part, Conflicts}
+use Rattle.lw_core.specs.Words.{grant_of, is_free, lock_part, Conflicts}
 use Rattle.lw_core.specs.CountsHolders.{is_shared, is_exclusive, CountsHolders}
 use Rattle.seat_roster.proofs.Totals.{total_set, total_snoc, total_at, total_two}
 
@@ -34,10 +34,15 @@ grant_below modes id n Shared at c = let a = total_at is_shared modes id (Some S
 grant_below modes id n Exclusive at c = let a = total_at is_exclusive modes id (Some Exclusive) at in let part = c.counted in omega arith
 
 -- and in its lock part
-pub part_holds : (modes : Modes) (id n : ℕ) (o : Option Mode) → get_elem? modes id ≡ maybe.some o → CountsHolders n modes → grant_held o ≤ lock_part n
-part_holds modes id n None at c = omega arith
-part_holds modes id n (Some Shared) at c = let a = total_at is_shared modes id (Some Shared) at in let part = c.counted in omega arith
-part_holds modes id n (Some Exclusive) at c = let a = total_at is_exclusive modes id (Some Exclusive) at in let part = c.counted in omega arith
+pub part_holds : (modes : Modes) (id n : ℕ) (m : Mode) → get_elem? modes id ≡ maybe.some (Some m) → CountsHolders n modes → grant_of m ≤ lock_part n
+part_holds modes id n Shared at c = let a = total_at is_shared modes id (Some Shared) at in let part = c.counted in omega arith
+part_holds modes id n Exclusive at c = let a = total_at is_exclusive modes id (Some Exclusive) at in let part = c.counted in omega arith
+
+-- nobody holds a lock whose lock part is 0
+pub none_holds : (modes : Modes) (id n : ℕ) (o : Option Mode) → get_elem? modes id ≡ maybe.some o → CountsHolders n modes → lock_part n ≡ 0 → o ≡ None
+none_holds modes id n None at c free = refl
+none_holds modes id n (Some Shared) at c free = let a = part_holds modes id n Shared at c in absurd (omega arith)
+none_holds modes id n (Some Exclusive) at c free = let a = part_holds modes id n Exclusive at c in absurd (omega arith)
 
 pub counts_released : (modes : Modes) (id n : ℕ) (m : Mode) → get_elem? modes id ≡ maybe.some (Some m) → CountsHolders n modes → CountsHolders (n - grant_of m) (set modes id None)
 counts_released modes id n Shared at c =

@@ -22,6 +22,7 @@ pub mod Answered
 pub mod Balance
 pub mod Markers
 pub mod Seats
+pub mod WordsAreMade
 pub mod Beside
 pub mod StillAnswered
 pub mod Attending

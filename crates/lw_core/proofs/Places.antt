@@ -12,7 +12,7 @@ use Rattle.lw_core.specs.declared.view.Hold.{Hold}
 use Rattle.lw_core.specs.declared.view.View.{View}
 use Rattle.lw_core.specs.declared.view.Size.{Size}
 use Rattle.lw_core.specs.declared.view.Waiter.{Waiter}
-use Rattle.lw_core.specs.Words.{state_at, guard_at, grant_held, locked, has_flag}
+use Rattle.lw_core.specs.Words.{state_at, guard_at, grant_of, locked, has_flag}
 use Rattle.lw_core.specs.WaitLists.{home_list}
 use Rattle.lw_core.specs.Machine.{LwState, Place, top, outer, not_held, held, hold_in, mode_in, number_of, lock_number, IsInRange, word_of, moved, gripped, next, on_grant, on_refusal, loaded, taking, releasing, in_hand, posted, surplus_posted, MayTake, BeginsAttempt, BeginsRelease, Allowed, after, fresh, guard_hold}
 use Rattle.lw_core.specs.SeatFits.{Seating, PlaceFits, SeatFits, SeatsFit}
@@ -112,7 +112,7 @@ module _ (lawful : ℕ → List ℕ → Type 0) (z : Size) (s : LwState) (r : Ru
         on_exchange n w (λ (b : Bool). SeatFits (seating_of (moved v (kind.Refuse l m w) n (cond b (on_refusal (outer v.place)) (Trying l m n ∷ outer v.place)))))
         (λ _. moves _ (refused_fits v.holds v.surplus l m (outer v.place) now.0 now.2))
         (λ _. moves _ (now.0, (r.counts l inside.0).fits, now.2))
-    by_kind (kind.Sub l b) inside ok = grips _ l not_held (let_go_fits b (set v.holds l not_held) v.surplus l (get_or s.words (state_at l) 0 - grant_held (mode_in l v)) (releasing b v.place) (begun_release b l v mine.place ok.0).0 (nothing_left b l ok.0))
+    by_kind (kind.Sub l m b) inside ok = grips _ l not_held (let_go_fits b (set v.holds l not_held) v.surplus l (get_or s.words (state_at l) 0 - grant_of m) (releasing b v.place) (begun_release b l v mine.place ok.0) (nothing_left b l ok.0))
     by_kind (kind.Peek l (Some (call.WaitForVar i old))) inside ok = moves _ (peeked_fits v.holds v.surplus i old _ v.place (subst (λ (x : ℕ). mode_in x v ≡ None) (sym ok.0) ok.2) ok.1 (nothing_back ok.1))
     by_kind (kind.Peek l None) inside ok = moves _ (looked_on_fits v.holds v.surplus l _ v.place ok mine.place)
     by_kind (kind.Peek l (Some c)) inside ok = absurd ok

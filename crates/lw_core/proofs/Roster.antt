@@ -18,7 +18,7 @@ use Rattle.lw_core.proofs.Touches.{numbers_kept, word_past_first}
 module _ (lawful : ℕ → List ℕ → Type 0) (z : Size) (s : LwState) (r : Rule lawful z s) (id : ℕ) (v : View) (at : get_elem? s.views id ≡ maybe.some v) where
   pub roster_step : (k : LwStep) → NumbersStand z (after z s id v k)
   roster_step k = let i : ℕ = word_of z (number_of v.own) k in let n : ℕ = get_or s.words i 0 in let found : List Waiter = home_list s.homes (lock_number k) in let past = word_past_first lawful z (number_of v.own) k in
-      frame numbers_of (Roster z.procs) s.words i (becomes k v n) 0 s.views id v (next k v n found) at (λ e. omega arith) (numbers_kept k v n found) r.roster
+      frame numbers_of (Roster z.procs) s.words i (becomes k n) 0 s.views id v (next k v n found) at (λ e. omega arith) (numbers_kept k v n found) r.roster
 
   pub roster_draw : v.own ≡ Some 0 → v.pending ≡ None → v.drawn + 1 < z.procs → NumbersStand z (drawn s id v)
   roster_draw zero_is free more = let wide = r.sized.long in let n : ℕ = get_or s.words 0 0 in

@@ -12,7 +12,7 @@ use Rattle.lw_core.specs.declared.view.View.{View}
 use Rattle.lw_core.specs.declared.view.Size.{Size}
 use Rattle.lw_core.specs.declared.view.Waiter.{Waiter}
 use Rattle.seat_roster.specs.Totals.{total}
-use Rattle.lw_core.specs.Words.{Waiters, state_at, guard_at, waiting_at, sem_at, grant_held, locked, has_flag, guarded, word_count, Opens}
+use Rattle.lw_core.specs.Words.{Waiters, state_at, guard_at, waiting_at, sem_at, grant_of, locked, has_flag, guarded, word_count, Opens}
 use Rattle.lw_core.specs.WaitLists.{AllEmpty, IsUntilFreeFirst, times, times_with, home_of, home_list}
 use Rattle.lw_core.specs.Machine.{LwState, top, outer, not_held, held, hold_in, moved, gripped, on_grant, let_go, fresh, IsInRange, number_of, lock_number, mode_in, word_of, becomes, next, carried, act_of, takes_list, sends_home, as_waiters, left_at, Allowed, after, HoldsNothing, releasing, guard_hold, guard_becomes, guard_writes}
 use Rattle.lw_core.specs.Stances.{Stance, hand_list, home_times, own_amount, downing_at, stance_of}
@@ -37,6 +37,7 @@ use Rattle.lw_core.specs.GuardedIsLawful.{Knows}
 use Rattle.lw_core.proofs.Guarding.{knows_not_held}
 use Rattle.lw_core.proofs.Touches.{hold_here, top_is, fresh_hold, guards_held}
 use Rattle.lw_core.proofs.Roster.{roster_step, roster_draw, roster_split, roster_join}
+use Rattle.lw_core.proofs.WordsAreMade.{made_step, made_draw, made_split, made_join, made_opens}
 use Rattle.lw_core.proofs.Places.{places_step, places_draw, places_split, places_join, fresh_fits}
 use Rattle.lw_core.proofs.Places as places
 use Rattle.lw_core.proofs.Counts.{counts_step, counts_draw, counts_split, counts_join, inside_holds}
@@ -77,7 +78,7 @@ module _ (lawful : ℕ → List ℕ → Type 0) (z : Size) (s : LwState) (r : Ru
     -- THE RULE AFTER A STEP
     pub rule_step : (k : LwStep) → IsInRange z k → (v.own ≡ None → ⊥) → Allowed lawful k v → Rule lawful z (after z s id v k)
     rule_step k inside numbered ok =
-        let i : ℕ = word_of z (number_of v.own) k in let n : ℕ = get_or s.words i 0 in let found : List Waiter = home_list s.homes (lock_number k) in let x : ℕ = becomes k v n in
+        let i : ℕ = word_of z (number_of v.own) k in let n : ℕ = get_or s.words i 0 in let found : List Waiter = home_list s.homes (lock_number k) in let x : ℕ = becomes k n in
         let w : View = next k v n found in let homes : Homes = homes_after s.homes (carried k v) (act_of k n found) in let t = step_turn lawful z s r id v at k inside numbered ok in
         let looks = seen stance_of s.views id w (stance_of w) refl in let long = r.sized.long in let slots = r.sized.slots in
         let one = alone lawful z s r in let sounds = sound lawful z s r in let outside = out lawful z s r in
@@ -107,6 +108,7 @@ module _ (lawful : ℕ → List ℕ → Type 0) (z : Size) (s : LwState) (r : Ru
         } in record {
           sized = record { locks = r.sized.locks; procs = r.sized.procs; long = length-set s.words i x ∙ long; slots = slots_after };
           roster = roster_after;
+          made = made_step lawful z s r id v at k inside numbered ok;
           places = places_after;
           counts = counts_after;
           guarded = guards_step lawful z s r id v at k inside numbered ok;
@@ -149,8 +151,8 @@ module _ (lawful : ℕ → List ℕ → Type 0) (z : Size) (s : LwState) (r : Ru
     by_kind (kind.Load l b) inside numbered ok = ((r.counts l inside.0).fits, places.nothing_back lawful z s r id v at)
     by_kind (kind.Grant l m w) inside numbered ok = ((r.counts l inside.0).fits, granted l w (get_or s.words (state_at l) 0) m (home_list s.homes l) inside.0)
     by_kind (kind.Refuse l m w) inside numbered ok = (r.counts l inside.0).fits
-    by_kind (kind.Sub l b) inside numbered ok = let n : ℕ = get_or s.words (state_at l) 0 in
-        ((r.counts l inside.0).fits, hold_here v (kind.Sub l b) l n (let_go b l (n - grant_held (mode_in l v)) (releasing b v.place)) not_held v.grants (inside_holds lawful z s r id v at l inside.0))
+    by_kind (kind.Sub l m b) inside numbered ok = let n : ℕ = get_or s.words (state_at l) 0 in
+        ((r.counts l inside.0).fits, hold_here v (kind.Sub l m b) l n (let_go b l (n - grant_of m) (releasing b v.place)) not_held v.grants (inside_holds lawful z s r id v at l inside.0))
     by_kind (kind.Peek l b) inside numbered ok = ((r.counts l inside.0).fits, places.nothing_back lawful z s r id v at)
     by_kind (kind.Guard l k o) inside numbered ok = let n : ℕ = get_or s.words (guard_at l k) 0 in
         (hold_here v (kind.Guard l k o) l n v.place (guard_hold o (hold_in l v) k n) v.grants (inside_holds lawful z s r id v at l inside.0), writes_step lawful z s r id v at l k (guard_becomes o n) inside.0 ok.0, reads_step lawful z s r id v at l k inside.0 (ok.0, ok.1, guards_held (guard_writes o) (mode_in l v) ok.2))
@@ -175,6 +177,7 @@ module _ (lawful : ℕ → List ℕ → Type 0) (z : Size) (s : LwState) (r : Ru
         let same = looks ∙ sym again in record {
           sized = record { locks = r.sized.locks; procs = r.sized.procs; long = length-set s.words 0 (n + 1) ∙ long; slots = slots };
           roster = roster_draw lawful z s r id v at zero_is free more;
+          made = made_draw lawful z s r id v at;
           places = places_draw lawful z s r id v at;
           counts = counts_draw lawful z s r id v at;
           guarded = guards_draw lawful z s r id v at;
@@ -198,6 +201,7 @@ module _ (lawful : ℕ → List ℕ → Type 0) (z : Size) (s : LwState) (r : Ru
         let more = seen_more stance_of (set s.views id (stays_with v)) (comes v) in let looks = more ∙ ap (λ (xs : List Stance). xs ++ idle v.pending [] [] ∷ []) (unseen stance_of s.views id v (stays_with v) at refl) in record {
           sized = r.sized;
           roster = roster_split lawful z s r id v at;
+          made = made_split lawful z s r id v at;
           places = places_split lawful z s r id v at;
           counts = counts_split lawful z s r id v at;
           guarded = guards_split lawful z s r id v at;
@@ -224,6 +228,7 @@ module _ (lawful : ℕ → List ℕ → Type 0) (z : Size) (s : LwState) (r : Ru
         record {
           sized = r.sized;
           roster = roster_join lawful z s r id v at other w behind settled;
+          made = made_join lawful z s r id v at other w apart from;
           places = places_join lawful z s r id v at other w behind from;
           counts = counts_join lawful z s r id v at other w behind empty;
           guarded = guards_join lawful z s r id v at other w behind empty;
@@ -286,6 +291,7 @@ module _ (lawful : ℕ → List ℕ → Type 0) (z : Size) where
     opens zeros locks some procs long h many = record {
       sized = record { locks = locks; procs = procs; long = long; slots = length-map lists maybe.some ∙ many };
       roster = subst (λ (n : ℕ). Roster z.procs n (numbered (Some 0) ∷ [])) (sym h.0) (roster_first z.procs some);
+      made = made_opens z words (Some 0) h;
       places = λ id u e. first_fits id u e;
       counts = λ l below. let e = h.1 l below in let none : mode_in l (fresh (Some 0)) ≡ None = ap (λ (x : Hold). x.mode) (fresh_hold (Some 0) l) in
           let a : is_exclusive (mode_in l (fresh (Some 0))) ≡ 0 = ap is_exclusive none in let b : is_shared (mode_in l (fresh (Some 0))) ≡ 0 = ap is_shared none in

@@ -21,9 +21,9 @@ use Rattle.lw_core.specs.declared.view.Waiter.{Waiter}
 use Rattle.lw_core.specs.Words.{Waiters, locked, has_flag}
 use Rattle.lw_core.specs.Machine.{Place, not_held, held, hold_in, mode_in, number_of, outer, on_grant, moved, gripped, lock_of, lock_number, exchanges, takes_list, sends_home, as_waiters, act_of, next, MaySendHome, MayDetach, Allowed, BeginsTaking, guard_hold}
 use Rattle.lw_core.specs.Stances.{Hand, hand_at}
-use Rattle.lw_core.specs.Ops.{about, mode_then}
+use Rattle.lw_core.specs.Ops.{about}
 use Rattle.lw_core.specs.Seats.{SeatView, seat_view, mode_of_hold, Carries, IsSeated}
-use Rattle.lw_core.specs.Sending.{IsTaking, IsSending, mode_for, held_for, modes_then, pokes_by}
+use Rattle.lw_core.specs.Sending.{IsTaking, IsSending, modes_then, pokes_by}
 use Rattle.lw_core.specs.Told.{Sat, lock_in_hand, HandFollows, does}
 use Rattle.lw_core.proofs.Turning.{takes_none}
 use Rattle.lw_core.proofs.Touches.{on_exchange, either_way, numbers_kept, poked_keeps}
@@ -39,21 +39,16 @@ modes_kept [] l = refl
 modes_kept (x ∷ xs) zero = refl
 modes_kept (x ∷ xs) (suc l) = λ i. x.mode ∷ modes_kept xs l i
 
--- a step that changes no mode
-modes_stay : (o : Option ℕ) (v : View) → map mode_of_hold v.holds ≡ modes_then o (mode_for o v) (map mode_of_hold v.holds)
-modes_stay None v = refl
-modes_stay (Some l) v = modes_kept v.holds l
-
 -- the modes of the view after a step
-modes_after : (k : LwStep) (v : View) (n : ℕ) (found : List Waiter) → map mode_of_hold (next k v n found).holds ≡ modes_then (lock_of k) (mode_then k (held_for k v) n) (map mode_of_hold v.holds)
+modes_after : (k : LwStep) (v : View) (n : ℕ) (found : List Waiter) → map mode_of_hold (next k v n found).holds ≡ modes_then k n (map mode_of_hold v.holds)
 modes_after (kind.Grant l m w) v n found = on_exchange n w
     (λ (b : Bool). map mode_of_hold (cond b (gripped v (kind.Grant l m w) l n (on_grant v.surplus (outer v.place)) (held m) (v.grants + 1)) (moved v (kind.Grant l m w) n (Trying l m n ∷ outer v.place))).holds
-    ≡ set (map mode_of_hold v.holds) l (cond b (Some m) (mode_in l v)))
-    (λ _. map-set mode_of_hold v.holds l (held m)) (λ _. modes_kept v.holds l)
-modes_after (kind.Sub l b) v n found = map-set mode_of_hold v.holds l not_held
-modes_after (kind.Guard l k o) v n found = map-set mode_of_hold v.holds l (guard_hold o (hold_in l v) k n)
+    ≡ cond b (set (map mode_of_hold v.holds) l (Some m)) (map mode_of_hold v.holds))
+    (λ _. map-set mode_of_hold v.holds l (held m)) (λ _. refl)
+modes_after (kind.Sub l m b) v n found = map-set mode_of_hold v.holds l not_held
+modes_after (kind.Guard l k o) v n found = map-set mode_of_hold v.holds l (guard_hold o (hold_in l v) k n) ∙ sym (modes_kept v.holds l)
 modes_after (kind.Post q b) v n found = poked_keeps (λ (u : View). map mode_of_hold u.holds) (λ _ _. refl) b _
-modes_after k v n found = modes_stay (lock_of k) v
+modes_after k v n found = refl
 
 -- the pokes of the view after a step
 pokes_after : (lawful : ℕ → List ℕ → Type 0) (k : LwStep) (v : View) (n : ℕ) (found : List Waiter) → Allowed lawful k v → (next k v n found).pokes ≡ v.pokes + pokes_by k
@@ -148,16 +143,16 @@ module _ (lawful : ℕ → List ℕ → Type 0) where
       }
 
   -- a seat after a step, with what it keeps at run time
-  pub seated_after : (z : Size) (s t : Seat Waiters View) (number : ℕ) (modes others : List (Option Mode)) (pokes added : ℕ) (k : LwStep) (n : ℕ) (lock : Option ℕ) (has o : Option Mode) → IsSeated s number modes pokes
-      → Allowed lawful k s.me.0 → t.table_id ≡ s.table_id → does lawful z k about s.me n t.me → lock ≡ lock_of k → has ≡ held_for k s.me.0 → o ≡ mode_then k has n → others ≡ modes_then lock o modes → added ≡ pokes_by k → IsSeated t number others (pokes + added)
-  seated_after z s t number modes others pokes added k n lock has o h ok table told on mine then are more =
-      let same : others ≡ modes_then (lock_of k) (mode_then k (held_for k s.me.0) n) modes = are ∙ (λ i. modes_then (on i) ((then ∙ ap (λ (m : Option Mode). mode_then k m n) mine) i) modes) in
-      seated_step s t number modes others pokes (pokes + added) k n told.0 h ok table told.1 told.2 told.4 (same ∙ (ap (modes_then (lock_of k) (mode_then k (held_for k s.me.0) n)) h.modes_are ∙ sym (modes_after k s.me.0 n told.0)))
-      (ap length are ∙ (long_then lock o modes ∙ h.long)) ((λ i. h.pokes_are i + more i) ∙ sym (pokes_after lawful k s.me.0 n told.0 ok))
+  pub seated_after : (z : Size) (s t : Seat Waiters View) (number : ℕ) (modes others : List (Option Mode)) (pokes added : ℕ) (k : LwStep) (n : ℕ) → IsSeated s number modes pokes → Allowed lawful k s.me.0 → t.table_id ≡ s.table_id
+      → does lawful z k about s.me n t.me → others ≡ modes_then k n modes → added ≡ pokes_by k → IsSeated t number others (pokes + added)
+  seated_after z s t number modes others pokes added k n h ok table told are more =
+      seated_step s t number modes others pokes (pokes + added) k n told.0 h ok table told.1 told.2 told.4 (are ∙ (ap (modes_then k n) h.modes_are ∙ sym (modes_after k s.me.0 n told.0)))
+      (ap length are ∙ (long_then k n modes ∙ h.long)) ((λ i. h.pokes_are i + more i) ∙ sym (pokes_after lawful k s.me.0 n told.0 ok))
     where
-      long_then : (l : Option ℕ) (m : Option Mode) (xs : List (Option Mode)) → length (modes_then l m xs) ≡ length xs
-      long_then None m xs = refl
-      long_then (Some l) m xs = length-set xs l m
+      long_then : (k : LwStep) (n : ℕ) (xs : List (Option Mode)) → length (modes_then k n xs) ≡ length xs
+      long_then (kind.Grant l m w) n xs = on_exchange n w (λ (b : Bool). length (cond b (set xs l (Some m)) xs) ≡ length xs) (λ _. length-set xs l (Some m)) (λ _. refl)
+      long_then (kind.Sub l m b) n xs = length-set xs l None
+      long_then k n xs = refl
 
   -- a step that may send the list in hand home
   seated_sending : (s t : Seat Waiters View) (number : ℕ) (modes : List (Option Mode)) (pokes l : ℕ) (k : LwStep) (n : ℕ) (found : List Waiter) → IsSending l k → IsSeated s number modes pokes → Allowed lawful k s.me.0 → t.table_id ≡ s.table_id

@@ -63,7 +63,7 @@ module _ (lawful : ℕ → List ℕ → Type 0) (z : Size) (s : LwState) (r : Ru
 
     -- what a step does to lists and wakes
     pub step_turn : (k : LwStep) → IsInRange z k → (v.own ≡ None → ⊥) → Allowed lawful k v → let n = get_or s.words (word_of z (number_of v.own) k) 0 in let found = home_list s.homes (lock_number k) in
-        Turn z s.words s.homes (homes_after s.homes (carried k v) (act_of k n found)) (word_of z (number_of v.own) k) (becomes k v n) (stance_of v) (stance_of (next k v n found))
+        Turn z s.words s.homes (homes_after s.homes (carried k v) (act_of k n found)) (word_of z (number_of v.own) k) (becomes k n) (stance_of v) (stance_of (next k v n found))
     step_turn k inside numbered ok = let own = numbered_as numbered in
         turning.by_kind lawful z s.words s.homes v (places.mine lawful z s r id v at).place (number_of v.own) own (own_inside (number_of v.own) own) (λ l below clear. (r.lists l below).at_home clear)
-        (λ l below. part_holds (map (mode_in l) s.views) id (get_or s.words (state_at l) 0) (mode_in l v) (at_seen (mode_in l) s.views id v (mode_in l v) at refl) (r.counts l below)) k inside ok
+        (λ l m below holds. part_holds (map (mode_in l) s.views) id (get_or s.words (state_at l) 0) m (at_seen (mode_in l) s.views id v (Some m) at holds) (r.counts l below)) k inside ok

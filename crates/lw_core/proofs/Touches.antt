@@ -14,7 +14,7 @@ use Rattle.lw_core.specs.declared.view.Hold.{Hold}
 use Rattle.lw_core.specs.declared.view.Size.{Size}
 use Rattle.lw_core.specs.declared.view.View.{View}
 use Rattle.lw_core.specs.declared.view.Waiter.{Waiter}
-use Rattle.lw_core.specs.Words.{state_at, var_at, guard_at, grant_held, guarded}
+use Rattle.lw_core.specs.Words.{state_at, var_at, guard_at, grant_of, guarded}
 use Rattle.lw_core.specs.Machine.{Place, top, outer, not_held, held, hold_in, mode_in, number_of, lock_of, word_of, gripped, on_grant, releasing, let_go, poked_by, next, BeginsRelease, Allowed, fresh, guard_hold}
 use Rattle.lw_core.specs.SeatFits.{PlaceFits}
 use Rattle.lw_core.specs.Rule.{numbers_of}
@@ -61,16 +61,16 @@ gripped_else v k i n p h grants l other = get_or-set_other v.holds i l h not_hel
 -- a step leaves what the seat has of each lock that it isn't on
 pub hold_else : (k : LwStep) (v : View) (n : ℕ) (found : List Waiter) (l : ℕ) → (lock_of k ≡ Some l → ⊥) → hold_in l (next k v n found) ≡ hold_in l v
 hold_else (kind.Grant i m w) v n found l other = either_way (hold_in l) (eqb n w) _ _ (hold_in l v) (gripped_else v (kind.Grant i m w) i n (on_grant v.surplus (outer v.place)) (held m) (v.grants + 1) l (λ e. other (ap Some (sym e)))) refl
-hold_else (kind.Sub i b) v n found l other = gripped_else v (kind.Sub i b) i n (let_go b i (n - grant_held (mode_in i v)) (releasing b v.place)) not_held v.grants l (λ e. other (ap Some (sym e)))
+hold_else (kind.Sub i m b) v n found l other = gripped_else v (kind.Sub i m b) i n (let_go b i (n - grant_of m) (releasing b v.place)) not_held v.grants l (λ e. other (ap Some (sym e)))
 hold_else (kind.Guard i k o) v n found l other = gripped_else v (kind.Guard i k o) i n v.place (guard_hold o (hold_in i v) k n) v.grants l (λ e. other (ap Some (sym e)))
 hold_else (kind.Post q b) v n found l other = poked_keeps (hold_in l) (λ _ _. refl) b _
 hold_else k v n found l other = refl
 
--- a release goes on in no call, and the lock is held
-pub begun_release : (b : Option Call) (l : ℕ) (v : View) → PlaceFits v.holds v.surplus v.place → BeginsRelease l b v → (releasing b v.place ≡ []) × (is_some (mode_in l v) ≡ true)
-begun_release (Some (call.Release k)) l v fits ok = (ok.1, ok.2)
+-- a release goes on in no call
+pub begun_release : (b : Option Call) (l : ℕ) (v : View) → PlaceFits v.holds v.surplus v.place → BeginsRelease l b v → releasing b v.place ≡ []
+begun_release (Some (call.Release k)) l v fits ok = ok.1
 begun_release (Some c) l v fits ok = absurd ok
-begun_release None l v fits ok = let now = subst (PlaceFits v.holds v.surplus) (top_is v.place (Releasing l) ok) fits in (now.2, ap is_some now.0)
+begun_release None l v fits ok = let now = subst (PlaceFits v.holds v.surplus) (top_is v.place (Releasing l) ok) fits in now.2
 
 -- a lock is that of the step or isn't
 pub on_lock : (k : LwStep) (l : ℕ) (P : Type 0) → (lock_of k ≡ Some l → P) → ((lock_of k ≡ Some l → ⊥) → P) → P

@@ -20,7 +20,7 @@ use Rattle.lw_core.specs.declared.view.Size.{Size}
 use Rattle.lw_core.specs.declared.view.Want.{Want}
 use Rattle.lw_core.specs.declared.view.Want.TheVariants as want
 use Rattle.lw_core.specs.declared.view.Waiter.{Waiter}
-use Rattle.lw_core.specs.Words.{Waiters, state_at, var_at, waiting_at, sem_at, grant_of, grant_held, is_free, lock_part, locked, release_ok, has_waiters, has_flag, set_flag, clear_flag}
+use Rattle.lw_core.specs.Words.{Waiters, state_at, var_at, waiting_at, sem_at, grant_of, is_free, lock_part, locked, release_ok, has_waiters, has_flag, set_flag, clear_flag}
 use Rattle.lw_core.specs.WaitLists.{waiter, times, joined_by, without, taken_from, kept_from, lockers_from, home_of, home_list}
 use Rattle.lw_core.specs.declared.view.View.{View}
 use Rattle.lw_core.specs.Machine.{Place, fresh, top, outer, number_of, lock_number, word_of, becomes, next, IsInRange, act_of, carried, downed_at, moved, gripped, held, mode_in, Allowed, want_of, resumed, on_grant, on_refusal, loaded, peeked, on_outcome, on_conflict, taking, releasing, compared, published, let_go, after_store, calls_for_wake, in_hand, flagged, sent_home, stored, reread, telling, detached, posted, looked, answered, surplus_found, surplus_posted, left_at, as_waiters, woken_word, MayLoad, MayTake, MaySendHome, MayFlag, MayStore, MayReread, MayDetach, Owes, MayLook, MayAnswer, MayPeek, BeginsTaking, MayReadVar, MayStoreVar, BeginsRelease}
@@ -355,11 +355,11 @@ attempt v fits l w m is = (subst (PlaceFits v.holds v.surplus) (top_is v.place (
 -- WHAT A STEP DOES. Of a seat whose place fits, in a state whose lists are at home where LOCKED is clear
 module _ (lawful : ℕ → List ℕ → Type 0) (z : Size) (words : List ℕ) (homes : Homes) (v : View) (fits : PlaceFits v.holds v.surplus v.place) (p : ℕ) (mine : v.own ≡ Some p) (below : p < z.procs)
     (home : (l : ℕ) → l < z.locks → has_flag locked (get_or words (state_at l) 0) ≡ 0 → (list : Waiters) × (get_elem? homes l ≡ maybe.some (maybe.some list)))
-    (enough : (l : ℕ) → l < z.locks → grant_held (mode_in l v) ≤ lock_part (get_or words (state_at l) 0)) where
+    (enough : (l : ℕ) (m : Mode) → l < z.locks → mode_in l v ≡ Some m → grant_of m ≤ lock_part (get_or words (state_at l) 0)) where
   -- after the step k of the backend o
   abbrev Turned : ℕ → LwStep → Type 0
   Turned o k = let i = word_of z o k in let n = get_or words i 0 in let found = home_list homes (lock_number k) in
-      Turn z words homes (homes_after homes (carried k v) (act_of k n found)) i (becomes k v n) (stance_of v) (stance_of (next k v n found))
+      Turn z words homes (homes_after homes (carried k v) (act_of k n found)) i (becomes k n) (stance_of v) (stance_of (next k v n found))
 
   pub by_kind : (k : LwStep) → IsInRange z k → Allowed lawful k v → Turned p k
   by_kind (kind.Load l None) inside ok = stays (reads refl) refl (loaded_same v.own v.surplus v.poked v.downed v.holds l (get_or words (state_at l) 0) v.place ok fits)
@@ -377,8 +377,8 @@ module _ (lawful : ℕ → List ℕ → Type 0) (z : Size) (words : List ℕ) (h
       on_exchange n w (λ (b : Bool). Turn z words homes homes i n (stance_of v) (stance_of (moved v k n (cond b (on_refusal (outer v.place)) (Trying l m n ∷ outer v.place)))))
       (λ hit. stays (reads refl) refl (refused_same v.own v.surplus v.poked v.downed l w m (outer v.place) (attempt v fits l w m ok.0) ∙ ap (λ (q : Place). stance v.own q v.surplus v.poked v.downed) (sym at_top)))
       (λ miss. stays (reads refl) refl (retried_same v.own v.surplus v.poked v.downed l w n m (outer v.place) (attempt v fits l w m ok.0) ∙ ap (λ (q : Place). stance v.own q v.surplus v.poked v.downed) (sym at_top)))
-  by_kind (kind.Sub l b) inside ok = let n : ℕ = get_or words (state_at l) 0 in let same = let_go_flag (grant_held (mode_in l v)) n (enough l inside.0) in
-      stays (grants l inside.0 refl same.0 same.1 same.2) refl (let_go_same v.own v.surplus v.poked v.downed b l (n - grant_held (mode_in l v)) (releasing b v.place) (begun_release b l v fits ok.0).0 ∙ released_same v.own v.surplus v.poked v.downed b l v (begun_release b l v fits ok.0).0 ok.0)
+  by_kind (kind.Sub l m b) inside ok = let n : ℕ = get_or words (state_at l) 0 in let same = let_go_flag (grant_of m) n (enough l m inside.0 ok.1) in
+      stays (grants l inside.0 refl same.0 same.1 same.2) refl (let_go_same v.own v.surplus v.poked v.downed b l (n - grant_of m) (releasing b v.place) (begun_release b l v fits ok.0) ∙ released_same v.own v.surplus v.poked v.downed b l v (begun_release b l v fits ok.0) ok.0)
   by_kind (kind.Peek l (Some (call.WaitForVar k old))) inside ok = stays (reads refl) refl (peeked_same v.own v.surplus v.poked v.downed k old (get_or words (state_at l) 0) v.place ok.1)
   by_kind (kind.Peek l None) inside ok = stays (reads refl) refl (looked_on_same v.own v.surplus v.poked v.downed v.holds l (get_or words (state_at l) 0) v.place ok fits)
   by_kind (kind.Peek l (Some c)) inside ok = absurd ok
@@ -393,7 +393,7 @@ module _ (lawful : ℕ → List ℕ → Type 0) (z : Size) (words : List ℕ) (h
   by_kind (kind.VarLoad l) inside ok = stays (reads refl) refl (compared_same v.own v.surplus v.poked v.downed v.holds l (get_or words (var_at l) 0) v.place ok fits)
   by_kind (kind.VarStore l x) inside ok = stays (varies l inside.0 refl) refl (published_same v.own v.surplus v.poked v.downed l x v.place ok)
   by_kind (kind.Unlock l c) inside ok = let num = ap number_of mine in
-      subst (λ (o : ℕ). Turn z words homes (set homes l (maybe.some (as_waiters (left_at v.place o)))) (state_at l) (becomes (kind.Unlock l c) v (get_or words (state_at l) 0)) (stance_of v) (stance_of (next (kind.Unlock l c) v (get_or words (state_at l) 0) (home_list homes l)))) (sym num)
+      subst (λ (o : ℕ). Turn z words homes (set homes l (maybe.some (as_waiters (left_at v.place o)))) (state_at l) (becomes (kind.Unlock l c) (get_or words (state_at l) 0)) (stance_of v) (stance_of (next (kind.Unlock l c) v (get_or words (state_at l) 0) (home_list homes l)))) (sym num)
       (unlock_turned z words homes v.own v.surplus v.poked v.downed p mine below v.holds l c v.place (subst (λ (o : ℕ). MaySendHome l c o v.place) num ok) fits inside.0)
   by_kind (kind.Flag l) inside ok = flag_turned z words homes v.own v.surplus v.poked v.downed p mine below l v.place ok inside.0
   by_kind (kind.WaitStore q x) inside ok = store_turned z words homes v.own v.surplus v.poked v.downed p mine below v.holds q x v.place ok fits inside.1
@@ -531,7 +531,7 @@ module _ (lawful : ℕ → List ℕ → Type 0) (z : Size) (v : View) (fits : Pl
       on_exchange n w (λ (b : Bool). lock_in_hand (hand_at (cond b (on_refusal (outer v.place)) (Trying l m n ∷ outer v.place))) ≡ lock_in_hand (hand_at v.place))
       (λ _. ap lock_held (refused_same v.own v.surplus v.poked v.downed l w m (outer v.place) (attempt v fits l w m ok.0)) ∙ at_top)
       (λ _. ap lock_held (retried_same v.own v.surplus v.poked v.downed l w n m (outer v.place) (attempt v fits l w m ok.0)) ∙ at_top)
-  hand_follows (kind.Sub l b) n found ok = ap lock_held (let_go_same v.own v.surplus v.poked v.downed b l (n - grant_held (mode_in l v)) (releasing b v.place) (begun_release b l v fits ok.0).0 ∙ released_same v.own v.surplus v.poked v.downed b l v (begun_release b l v fits ok.0).0 ok.0)
+  hand_follows (kind.Sub l m b) n found ok = ap lock_held (let_go_same v.own v.surplus v.poked v.downed b l (n - grant_of m) (releasing b v.place) (begun_release b l v fits ok.0) ∙ released_same v.own v.surplus v.poked v.downed b l v (begun_release b l v fits ok.0) ok.0)
   hand_follows (kind.Peek l (Some (call.WaitForVar k old))) n found ok = ap lock_held (peeked_same v.own v.surplus v.poked v.downed k old n v.place ok.1)
   hand_follows (kind.Peek l None) n found ok = ap lock_held (looked_on_same v.own v.surplus v.poked v.downed v.holds l n v.place ok fits)
   hand_follows (kind.Peek l (Some c)) n found ok = absurd ok

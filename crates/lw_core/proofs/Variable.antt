@@ -7,6 +7,7 @@ use lib.ListN.{get_elem?}
 use Rattle.atomic_table.specs.Table.{opening, homes_after}
 use Rattle.atomic_table.specs.Table as table
 use Rattle.atomic_table.proofs.Lists.{at_set, at_snoc, at_longer, set_here, set_else}
+use Rattle.proc_table.specs.declared.Mode.{Mode}
 use Rattle.proc_table.specs.declared.Mode.TheVariants.{Exclusive}
 use Rattle.seat_roster.proofs.Totals.{set_there, total_at, total_two}
 use Rattle.seat_roster.specs.Roster.{Numbers}
@@ -19,7 +20,7 @@ use Rattle.lw_core.specs.declared.view.Size.{Size}
 use Rattle.lw_core.specs.declared.view.View.{View}
 use Rattle.lw_core.specs.declared.view.Waiter.{Waiter}
 use Rattle.lw_core.specs.declared.view.Want.TheVariants.{UntilFree}
-use Rattle.lw_core.specs.Words.{Waiters, state_at, var_at, grant_held, locked, release_ok, has_waiters, has_flag, set_flag, word_count}
+use Rattle.lw_core.specs.Words.{Waiters, state_at, var_at, grant_of, locked, release_ok, has_waiters, has_flag, set_flag, word_count}
 use Rattle.lw_core.specs.WaitLists.{times_with, HasNoUntilFree, IsUntilFreeFirst, taken_from, kept_from, home_of, home_list}
 use Rattle.lw_core.specs.Machine.{LwState, Place, outer, held, mode_in, fresh, number_of, lock_number, IsInRange, word_of, becomes, moved, gripped, on_grant, on_refusal, calls_for_wake, in_hand, detached, posted, surplus_posted, left_at, next, carried, act_of, as_waiters, MayTake, MayDetach, Allowed, after, HoldsNothing, taking}
 use Rattle.lw_core.specs.Stances.{Stance, Hand, hand_list, hand_at, has_list, listed, entry_of, queued_at, announced_at, stance_of}
@@ -119,7 +120,7 @@ module _ (lawful : ℕ → List ℕ → Type 0) (z : Size) (s : LwState) (r : Ru
   view_by k = next k v (found_by k) (home_list s.homes (lock_number k))
 
   abbrev words_by : LwStep → List ℕ
-  words_by k = set s.words (word_of z (number_of v.own) k) (becomes k v (found_by k))
+  words_by k = set s.words (word_of z (number_of v.own) k) (becomes k (found_by k))
 
   abbrev homes_by : LwStep → Homes
   homes_by k = homes_after s.homes (carried k v) (act_of k (found_by k) (home_list s.homes (lock_number k)))
@@ -152,11 +153,11 @@ module _ (lawful : ℕ → List ℕ → Type 0) (z : Size) (s : LwState) (r : Ru
       by_place p may ordered = absurd may
 
   -- a release that calls for no wake left nobody on the list, or RELEASE_OK is clear
-  released : (i : ℕ) → i ≡ l → mode_in i v ≡ Some Exclusive → let x = get_or s.words (state_at i) 0 - grant_held (mode_in i v) in calls_for_wake x ≡ false → (word : ℕ) → word ≡ x → IsDone l word s.homes
-  released i is alone none word word_is =
-      let n : ℕ = get_or s.words (state_at i) 0 in let x : ℕ = n - grant_held (mode_in i v) in let counts = r.counts i (omega arith) in
+  released : (i : ℕ) (m : Mode) → i ≡ l → mode_in i v ≡ Some m → mode_in i v ≡ Some Exclusive → let x = get_or s.words (state_at i) 0 - grant_of m in calls_for_wake x ≡ false → (word : ℕ) → word ≡ x → IsDone l word s.homes
+  released i m is holds alone none word word_is =
+      let n : ℕ = get_or s.words (state_at i) 0 in let x : ℕ = n - grant_of m in let counts = r.counts i (omega arith) in
       let there = total_at is_exclusive (map (mode_in i) s.views) id (mode_in i v) (at_seen (mode_in i) s.views id v (mode_in i v) at refl) in let mine : is_exclusive (mode_in i v) ≡ 1 = ap is_exclusive alone in
-      let grant : grant_held (mode_in i v) ≡ 0x0100_0000 = ap grant_held alone in let counted = counts.counted in let one = counts.alone (omega arith) in
+      let only : m ≡ Exclusive = cc in let grant : grant_of m ≡ 0x0100_0000 = ap grant_of only in let counted = counts.counted in let one = counts.alone (omega arith) in
       ⊎_elim (λ clear. none_waits (ap (has_flag has_waiters) word_is ∙ clear)) (λ clear. ok_is_clear (ap (has_flag release_ok) word_is ∙ clear)) (no_call x (omega arith) none)
 
   -- what the step k by_kind for l where the place p becomes q
@@ -177,8 +178,8 @@ module _ (lawful : ℕ → List ℕ → Type 0) (z : Size) (s : LwState) (r : Ru
       on_exchange n w (λ (b : Bool). Takes k v.place (cond b (on_refusal (outer v.place)) (Trying i m n ∷ outer v.place)))
       (λ hit. subst (λ (p : Place). Takes k p (on_refusal (outer v.place))) (sym at_top) (refused_goes l _ _ _ i w v.surplus m (outer v.place) (places.tries lawful z s r id v at i w m ok.0).2))
       (λ miss. subst (λ (p : Place). Takes k p (Trying i m n ∷ outer v.place)) (sym at_top) (retried_goes l _ _ _ i w n m (outer v.place)))
-  by_kind (kind.Sub i b) inside ok = let x : ℕ = get_or s.words (state_at i) 0 - grant_held (mode_in i v) in
-      let_go_goes l _ _ _ b i x v fits (begun_release b i v fits ok.0).0 ok.0 (λ is alone none. released i is alone none _ (stored_here i x is))
+  by_kind (kind.Sub i m b) inside ok = let x : ℕ = get_or s.words (state_at i) 0 - grant_of m in
+      let_go_goes l _ _ _ b i x v fits (begun_release b i v fits ok.0) ok.0 (λ is alone none. released i m is ok.1 alone none _ (stored_here i x is))
   by_kind (kind.Peek i (Some (call.WaitForVar j old))) inside ok = peeked_goes l _ _ _ v.surplus j old (get_or s.words (state_at i) 0) v.place ok.1
   by_kind (kind.Peek i None) inside ok = looked_on_goes l _ _ _ v.holds v.surplus i (get_or s.words (state_at i) 0) v.place ok fits
   by_kind (kind.Peek i (Some c)) inside ok = absurd ok
@@ -235,7 +236,7 @@ module _ (lawful : ℕ → List ℕ → Type 0) (z : Size) (s : LwState) (r : Ru
     own_kept : (view_by k).own ≡ v.own
     own_kept = ap (λ (x : Numbers). x.own) (numbers_kept k v (found_by k) (home_list s.homes (lock_number k)))
 
-    turn : Turn z s.words s.homes now.homes (word_of z (number_of v.own) k) (becomes k v (found_by k)) (stance_of v) (stance_of (view_by k))
+    turn : Turn z s.words s.homes now.homes (word_of z (number_of v.own) k) (becomes k (found_by k)) (stance_of v) (stance_of (view_by k))
     turn = step_turn lawful z s r id v at k inside numbered ok
 
     takes_on : Takes k v.place (view_by k).place

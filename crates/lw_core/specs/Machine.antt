@@ -18,7 +18,7 @@ use Rattle.lw_core.specs.declared.view.View.{View}
 use Rattle.lw_core.specs.declared.view.Want.{Want}
 use Rattle.lw_core.specs.declared.view.Want.TheVariants as want
 use Rattle.lw_core.specs.declared.view.Waiter.{Waiter}
-use Rattle.lw_core.specs.Words.{Waiters, state_at, var_at, guard_at, waiting_at, sem_at, grant_of, grant_held, is_free, lock_part, locked, release_ok, has_waiters, has_flag, set_flag, clear_flag}
+use Rattle.lw_core.specs.Words.{Waiters, state_at, var_at, guard_at, waiting_at, sem_at, grant_of, is_free, lock_part, locked, release_ok, has_waiters, has_flag, set_flag, clear_flag}
 use Rattle.lw_core.specs.WaitLists.{waiter, joined_by, without, taken_from, kept_from, until_free_from, lockers_from, has_locker, is_empty, home_list}
 
 -- the words, the lists at home, and one view per seat
@@ -74,7 +74,7 @@ LeavesLawful lawful h = h.wrote ≡ true → (words : List ℕ) → Agrees h wor
 
 -- the view of a seat with this number, or with none, which did nothing yet
 abbrev pub fresh : Option ℕ → View
-fresh own = record { own = own; pending = None; taken = []; drawn = 0; place = []; steps = []; holds = replicate 200 not_held; grants = 0; waits = 0; surplus = 0; pokes = 0; poked = []; downed = [] }
+fresh own = record { own = own; pending = None; taken = []; drawn = 0; place = []; steps = []; inherited = []; holds = replicate 200 not_held; grants = 0; waits = 0; surplus = 0; pokes = 0; poked = []; downed = [] }
 
 abbrev pub number_of : Option ℕ → ℕ
 number_of None = 0
@@ -85,7 +85,7 @@ abbrev pub lock_of : LwStep → Option ℕ
 lock_of (Load l begins) = Some l
 lock_of (Grant l m w) = Some l
 lock_of (Refuse l m w) = Some l
-lock_of (Sub l begins) = Some l
+lock_of (Sub l m begins) = Some l
 lock_of (Peek l begins) = Some l
 lock_of (Guard l k o) = Some l
 lock_of (Lock l begins) = Some l
@@ -119,7 +119,7 @@ abbrev pub word_of : Size → ℕ → LwStep → ℕ
 word_of z own (Load l begins) = state_at l
 word_of z own (Grant l m w) = state_at l
 word_of z own (Refuse l m w) = state_at l
-word_of z own (Sub l begins) = state_at l
+word_of z own (Sub l m begins) = state_at l
 word_of z own (Peek l begins) = state_at l
 word_of z own (Guard l k o) = guard_at l k
 word_of z own (Lock l begins) = state_at l
@@ -151,25 +151,25 @@ abbrev pub MayGuard : GuardOp → Option Mode → Type 0
 MayGuard o m = cond (guard_writes o) (m ≡ Some Exclusive) (IsSome m)
 
 -- what the word n becomes
-abbrev pub becomes : LwStep → View → ℕ → ℕ
-becomes (Load l begins) v n = n
-becomes (Grant l m w) v n = cond (n == w) (w + grant_of m) n
-becomes (Refuse l m w) v n = n
-becomes (Sub l begins) v n = n - grant_held (mode_in l v)
-becomes (Peek l begins) v n = n
-becomes (Guard l k o) v n = guard_becomes o n
-becomes (Lock l begins) v n = set_flag locked n
-becomes (VarLoad l) v n = n
-becomes (VarStore l x) v n = x
-becomes (Unlock l clears) v n = cond clears (clear_flag has_waiters (clear_flag locked n)) (clear_flag locked n)
-becomes (Flag l) v n = set_flag has_waiters n
-becomes (WaitStore q x) v n = x
-becomes WaitLoad v n = n
-becomes (Wake l w to) v n = cond (n == w) to n
-becomes (Post q begins) v n = n + 1
-becomes (Look begins) v n = n
-becomes Down v n = n - 1
-becomes (SetReleaseOk l) v n = set_flag release_ok n
+abbrev pub becomes : LwStep → ℕ → ℕ
+becomes (Load l begins) n = n
+becomes (Grant l m w) n = cond (n == w) (w + grant_of m) n
+becomes (Refuse l m w) n = n
+becomes (Sub l m begins) n = n - grant_of m
+becomes (Peek l begins) n = n
+becomes (Guard l k o) n = guard_becomes o n
+becomes (Lock l begins) n = set_flag locked n
+becomes (VarLoad l) n = n
+becomes (VarStore l x) n = x
+becomes (Unlock l clears) n = cond clears (clear_flag has_waiters (clear_flag locked n)) (clear_flag locked n)
+becomes (Flag l) n = set_flag has_waiters n
+becomes (WaitStore q x) n = x
+becomes WaitLoad n = n
+becomes (Wake l w to) n = cond (n == w) to n
+becomes (Post q begins) n = n + 1
+becomes (Look begins) n = n
+becomes Down n = n - 1
+becomes (SetReleaseOk l) n = set_flag release_ok n
 
 -- the state word after a wake that takes these waiters and keeps those
 abbrev pub woken_word : List Waiter → List Waiter → ℕ → ℕ
@@ -181,7 +181,7 @@ abbrev pub exchanges : LwStep → ℕ → Bool
 exchanges (Load l begins) n = false
 exchanges (Grant l m w) n = n == w
 exchanges (Refuse l m w) n = n == w
-exchanges (Sub l begins) n = true
+exchanges (Sub l m begins) n = true
 exchanges (Peek l begins) n = false
 exchanges (Guard l k o) n = guard_writes o
 exchanges (Lock l begins) n = true
@@ -395,7 +395,7 @@ abbrev pub next : LwStep → View → ℕ → List Waiter → View
 next (Load l begins) v n found = moved v (Load l begins) n (loaded begins n v.place)
 next (Grant l m w) v n found = cond (n == w) (gripped v (Grant l m w) l n (on_grant v.surplus (outer v.place)) (held m) (v.grants + 1)) (moved v (Grant l m w) n (Trying l m n ∷ outer v.place))
 next (Refuse l m w) v n found = moved v (Refuse l m w) n (cond (n == w) (on_refusal (outer v.place)) (Trying l m n ∷ outer v.place))
-next (Sub l begins) v n found = gripped v (Sub l begins) l n (let_go begins l (n - grant_held (mode_in l v)) (releasing begins v.place)) not_held v.grants
+next (Sub l m begins) v n found = gripped v (Sub l m begins) l n (let_go begins l (n - grant_of m) (releasing begins v.place)) not_held v.grants
 next (Peek l begins) v n found = moved v (Peek l begins) n (peeked begins v.surplus n v.place)
 next (Guard l k o) v n found = gripped v (Guard l k o) l n v.place (guard_hold o (hold_in l v) k n) v.grants
 next (Lock l begins) v n found = moved v (Lock l begins) n (cond (has_flag locked n == 0) (in_hand found (outer (taking begins v.place))) (Spinning l ∷ outer (taking begins v.place)))
@@ -452,7 +452,7 @@ BeginsAttempt l (Some (call.AcquireOrWait k m)) v = (k ≡ l) × (v.place ≡ []
 BeginsAttempt l b v = ⊥
 
 abbrev pub BeginsRelease : ℕ → Option Call → View → Type 0
-BeginsRelease l (Some (call.Release k)) v = (k ≡ l) × (v.place ≡ []) × IsSome (mode_in l v)
+BeginsRelease l (Some (call.Release k)) v = (k ≡ l) × (v.place ≡ [])
 BeginsRelease l None v = top v.place ≡ Some (Releasing l)
 BeginsRelease l b v = ⊥
 
@@ -559,7 +559,7 @@ abbrev pub Allowed : (ℕ → List ℕ → Type 0) → LwStep → View → Type 
 Allowed lawful (Load l begins) v = BeginsLoad l begins v
 Allowed lawful (Grant l m w) v = (top v.place ≡ Some (Trying l m w)) × (is_free m w ≡ true)
 Allowed lawful (Refuse l m w) v = (top v.place ≡ Some (Trying l m w)) × (is_free m w ≡ false)
-Allowed lawful (Sub l begins) v = BeginsRelease l begins v × LeavesLawful (lawful l) (hold_in l v)
+Allowed lawful (Sub l m begins) v = BeginsRelease l begins v × (mode_in l v ≡ Some m) × LeavesLawful (lawful l) (hold_in l v)
 Allowed lawful (Peek l begins) v = BeginsLook l begins v
 Allowed lawful (Guard l k o) v = (k < 4) × (v.place ≡ []) × MayGuard o (mode_in l v)
 Allowed lawful (Lock l begins) v = BeginsTaking (lawful l) l begins v
@@ -578,4 +578,4 @@ Allowed lawful (SetReleaseOk l) v = MayAnswer l v.place
 -- the state after the step k of the seat id, whose view is v
 abbrev pub after : Size → LwState → ℕ → View → LwStep → LwState
 after z s id v k =
-    let i = word_of z (number_of v.own) k in let n = slice_index s.words i in let found = home_list s.homes (lock_number k) in stepped s i (becomes k v n) id (carried k v) (next k v n found) (act_of k n found)
+    let i = word_of z (number_of v.own) k in let n = slice_index s.words i in let found = home_list s.homes (lock_number k) in stepped s i (becomes k n) id (carried k v) (next k v n found) (act_of k n found)

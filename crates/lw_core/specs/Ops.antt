@@ -1,16 +1,15 @@
 -- The atomic operation behind each kind of step.
-use Rattle.std.specs.Prelude.{ℕ, ◌+◌, ◌-◌, ◌%◌, ◌^◌, ◌==◌, bit_and, bit_or, cond, List, Option, None, Some, Bool}
+use Rattle.std.specs.Prelude.{ℕ, ◌+◌, ◌-◌, ◌%◌, ◌^◌, ◌==◌, bit_and, bit_or, cond, List, Bool}
 use prog.Atomic.{either}
 use mathlib.Core.Option as maybe
 use Rattle.atomic_table.specs.Table.{Step, step, Allows}
-use Rattle.proc_table.specs.declared.Mode.{Mode}
 use Rattle.lw_core.specs.declared.step.GuardOp.TheVariants as guard
 use Rattle.lw_core.specs.declared.step.LwStep.{LwStep}
 use Rattle.lw_core.specs.declared.step.LwStep.TheVariants.{Load, Grant, Refuse, Sub, Peek, Guard, Lock, VarLoad, VarStore, Unlock, Flag, WaitStore, WaitLoad, Wake, Post, Look, Down, SetReleaseOk}
 use Rattle.lw_core.specs.declared.step.WordOp.{WordOp}
 use Rattle.lw_core.specs.declared.step.WordOp.TheVariants as op
 use Rattle.lw_core.specs.declared.view.Size.{Size}
-use Rattle.lw_core.specs.Words.{Waiters, grant_of, grant_held}
+use Rattle.lw_core.specs.Words.{Waiters, grant_of}
 use Rattle.lw_core.specs.Rule.{Rule}
 use Rattle.lw_core.specs.Told.{Sat, does}
 
@@ -28,33 +27,27 @@ gives (op.Change old new) n = either (n == old) new n
 abbrev pub unlocked_mask : Bool → ℕ
 unlocked_mask clears = cond clears 0xffff_ffff_afff_ffff 0xffff_ffff_efff_ffff
 
--- the operation of a step by a seat that has the step's lock in this mode
-abbrev pub op_of : LwStep → Option Mode → WordOp
-op_of (Load l b) o = op.Load
-op_of (Grant l m w) o = op.Change w ((w + grant_of m) % 2 ^ 64)
-op_of (Refuse l m w) o = op.Change w w
-op_of (Sub l b) o = op.Sub (grant_held o)
-op_of (Peek l b) o = op.Load
-op_of (Guard l k guard.Load) o = op.Load
-op_of (Guard l k (guard.Store x)) o = op.Store x
-op_of (Lock l b) o = op.Or 0x1000_0000
-op_of (VarLoad l) o = op.Load
-op_of (VarStore l x) o = op.Store x
-op_of (Unlock l clears) o = op.And (unlocked_mask clears)
-op_of (Flag l) o = op.Or 0x4000_0000
-op_of (WaitStore q x) o = op.Store x
-op_of WaitLoad o = op.Load
-op_of (Wake l w to) o = op.Change w to
-op_of (Post q b) o = op.Add 1
-op_of (Look b) o = op.Load
-op_of Down o = op.Sub 1
-op_of (SetReleaseOk l) o = op.Or 0x2000_0000
-
--- the mode in which the seat has the step's lock after a step that found n
-abbrev pub mode_then : LwStep → Option Mode → ℕ → Option Mode
-mode_then (Grant l m w) o n = cond (n == w) (Some m) o
-mode_then (Sub l b) o n = None
-mode_then k o n = o
+-- the operation of a step
+abbrev pub op_of : LwStep → WordOp
+op_of (Load l b) = op.Load
+op_of (Grant l m w) = op.Change w ((w + grant_of m) % 2 ^ 64)
+op_of (Refuse l m w) = op.Change w w
+op_of (Sub l m b) = op.Sub (grant_of m)
+op_of (Peek l b) = op.Load
+op_of (Guard l k guard.Load) = op.Load
+op_of (Guard l k (guard.Store x)) = op.Store x
+op_of (Lock l b) = op.Or 0x1000_0000
+op_of (VarLoad l) = op.Load
+op_of (VarStore l x) = op.Store x
+op_of (Unlock l clears) = op.And (unlocked_mask clears)
+op_of (Flag l) = op.Or 0x4000_0000
+op_of (WaitStore q x) = op.Store x
+op_of WaitLoad = op.Load
+op_of (Wake l w to) = op.Change w to
+op_of (Post q b) = op.Add 1
+op_of (Look b) = op.Load
+op_of Down = op.Sub 1
+op_of (SetReleaseOk l) = op.Or 0x2000_0000
 
 -- no play of this table says anything of the operands
 abbrev pub about : Step Waiters

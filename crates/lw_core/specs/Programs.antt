@@ -9,7 +9,7 @@ use Rattle.lw_core.specs.declared.view.View.{View}
 -- the call that begins with the step
 abbrev pub begun_by : LwStep → Option Call
 begun_by (Load l begins) = begins
-begun_by (Sub l begins) = begins
+begun_by (Sub l m begins) = begins
 begun_by (Peek l begins) = begins
 begun_by (Lock l begins) = begins
 begun_by (Post q begins) = begins

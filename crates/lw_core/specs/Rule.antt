@@ -7,6 +7,7 @@ use Rattle.seat_roster.specs.Roster.{Numbers, Roster}
 use Rattle.lw_core.specs.Words.{state_at, var_at, guarded, word_count}
 use Rattle.lw_core.specs.WaitLists.{home_list}
 use Rattle.lw_core.specs.Machine.{LwState, mode_in, hold_in}
+use Rattle.lw_core.specs.WordsAreMade.{all_steps, WordsAreMade}
 use Rattle.lw_core.specs.Stances.{stance_of}
 use Rattle.lw_core.specs.CountsHolders.{CountsHolders}
 use Rattle.lw_core.specs.GuardedIsLawful.{GuardedIsLawful}
@@ -77,9 +78,13 @@ EachFreeLockIsAnswered z s = (l : ℕ) → l < z.locks → FreeLockIsAnswered l 
 abbrev pub EachVariableIsAnnounced : Size → LwState → Type 0
 EachVariableIsAnnounced z s = (l : ℕ) → l < z.locks → VariableIsAnnounced l (slice_index s.words (state_at l)) (slice_index s.words (var_at l)) s.homes s.views
 
+abbrev pub EachWordIsMade : Size → LwState → Type 0
+EachWordIsMade z s = WordsAreMade z s.words (map all_steps s.views)
+
 pub record Rule (lawful : ℕ → List ℕ → Type 0) (z : Size) (s : LwState) : Type 0 where
   pub sized : Sized z (length s.words) (length s.homes)
   pub roster : NumbersStand z s
+  pub made : EachWordIsMade z s
   pub places : PlacesFit s
   pub counts : EachCountsHolders z s
   pub guarded : EachGuardedIsLawful lawful z s

@@ -7,6 +7,7 @@ use Rattle.lw_core.specs.declared.step.LwStep.{LwStep}
 use Rattle.lw_core.specs.declared.view.View.{View}
 use Rattle.lw_core.specs.declared.view.Size.{Size}
 use Rattle.seat_roster.specs.Roster.{listed}
+use Rattle.lw_core.specs.WordsAreMade.{all_steps}
 use Rattle.lw_core.specs.Machine.{LwState, HoldsNothing, IsInRange, Allowed, after, fresh}
 
 -- the view of a seat that draws the next number; what stays of it when that number goes to a new seat; and the view of the new seat
@@ -19,9 +20,9 @@ stays v = record v { pending = None }
 abbrev pub comes : View → View
 comes v = fresh v.pending
 
--- the view of a seat that takes in another, whose view is spent then. It takes over the other's numbers, whom it poked and whose `down` ended
+-- the view of a seat that takes in another, whose view is spent then. It takes over the other's numbers and steps, whom it poked and whose `down` ended
 abbrev pub both : View → View → View
-both v w = record v { taken = v.taken ++ (listed w.own ++ w.taken); poked = v.poked ++ w.poked; downed = v.downed ++ w.downed }
+both v w = record v { taken = v.taken ++ (listed w.own ++ w.taken); inherited = v.inherited ++ all_steps w; poked = v.poked ++ w.poked; downed = v.downed ++ w.downed }
 
 abbrev pub spent : View
 spent = fresh None

@@ -1,13 +1,13 @@
 -- What a step needs of the list in hand, and what becomes of it.
-use Rattle.std.specs.Prelude.{◌≡◌, ℕ, true, false, List, [], slice_set, Option, None, Some, ⊤}
+use Rattle.std.specs.Prelude.{◌≡◌, ℕ, ◌==◌, cond, true, false, List, [], slice_set, Option, None, Some, ⊤}
 use Rattle.proc_table.specs.declared.Mode.{Mode}
 use Rattle.lw_core.specs.declared.step.Call.TheVariants as call
 use Rattle.lw_core.specs.declared.step.LwStep.{LwStep}
-use Rattle.lw_core.specs.declared.step.LwStep.TheVariants.{Lock, Unlock, Wake, Post}
+use Rattle.lw_core.specs.declared.step.LwStep.TheVariants.{Grant, Sub, Lock, Unlock, Wake, Post}
 use Rattle.lw_core.specs.declared.view.View.{View}
 use Rattle.lw_core.specs.declared.view.Waiter.{Waiter}
 use Rattle.lw_core.specs.Words.{Waiters}
-use Rattle.lw_core.specs.Machine.{lock_of, mode_in, number_of, left_at, sends_home, takes_list, carried}
+use Rattle.lw_core.specs.Machine.{number_of, left_at, sends_home, takes_list, carried}
 use Rattle.lw_core.specs.Stances.{hand_at}
 use Rattle.lw_core.specs.Seats.{Carries}
 
@@ -43,18 +43,11 @@ HasSlot (Unlock l clears) v c = c ≡ carried (Unlock l clears) v
 HasSlot (Wake l w to) v c = c ≡ carried (Wake l w to) v
 HasSlot k v c = Carries (hand_at v.place) c
 
--- the mode in which the seat holds the step's lock
-abbrev pub mode_for : Option ℕ → View → Option Mode
-mode_for None v = None
-mode_for (Some l) v = mode_in l v
-
-abbrev pub held_for : LwStep → View → Option Mode
-held_for k v = mode_for (lock_of k) v
-
--- the modes that a seat keeps, with the lock of a step in another mode
-abbrev pub modes_then : Option ℕ → Option Mode → List (Option Mode) → List (Option Mode)
-modes_then None o modes = modes
-modes_then (Some l) o modes = slice_set modes l o
+-- the modes that a seat keeps, after a step that found n
+abbrev pub modes_then : LwStep → ℕ → List (Option Mode) → List (Option Mode)
+modes_then (Grant l m w) n modes = cond (n == w) (slice_set modes l (Some m)) modes
+modes_then (Sub l m begins) n modes = slice_set modes l None
+modes_then k n modes = modes
 
 -- 1 where the step pokes somebody
 abbrev pub pokes_by : LwStep → ℕ

@@ -34,7 +34,7 @@ abbrev pub Tells : (ℕ → List ℕ → Type 0) → Size → LwStep → View �
 Tells lawful z (Load l begins) v n found = (n < 2 ^ 32) × (v.place ≡ [] → v.surplus ≡ 0)
 Tells lawful z (Grant l m w) v n found = (n < 2 ^ 32) × (n ≡ w → hold_in l (next (Grant l m w) v n found) ≡ held m)
 Tells lawful z (Refuse l m w) v n found = n < 2 ^ 32
-Tells lawful z (Sub l begins) v n found = (n < 2 ^ 32) × (hold_in l (next (Sub l begins) v n found) ≡ not_held)
+Tells lawful z (Sub l m begins) v n found = (n < 2 ^ 32) × (hold_in l (next (Sub l m begins) v n found) ≡ not_held)
 Tells lawful z (Peek l begins) v n found = (n < 2 ^ 32) × (v.place ≡ [] → v.surplus ≡ 0)
 Tells lawful z (Guard l k o) v n found = (hold_in l (next (Guard l k o) v n found) ≡ guard_hold o (hold_in l v) k n) × (known_at (guard_hold o (hold_in l v) k n) k ≡ Some (guard_becomes o n)) × Reads (lawful l) (hold_in l v) k n
 Tells lawful z (Lock l begins) v n found = (n < 2 ^ 32) × (has_flag locked n ≡ 0 → TellsList z v found) × (v.place ≡ [] → v.surplus ≡ 0)

@@ -38,10 +38,6 @@ abbrev pub grant_of : Mode → ℕ
 grant_of Shared = 1
 grant_of Exclusive = 0x0100_0000
 
-abbrev pub grant_held : Option Mode → ℕ
-grant_held None = 0
-grant_held (Some m) = grant_of m
-
 abbrev pub lock_part : ℕ → ℕ
 lock_part word = word % 0x0200_0000
 

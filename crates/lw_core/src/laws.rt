@@ -1,7 +1,7 @@
 //! The laws over states and over runs. Each function does nothing: its contract is the law.
 ghost use Rattle.std.specs.Prelude.{◌<◌, ◌≤◌, List};
 ghost use Rattle.lw_core.specs.Machine.{LwState};
-ghost use Rattle.lw_core.specs.Rule.{Rule, NumbersStand, PlacesFit, EachCountsHolders, EachGuardedIsLawful, EachListInOneHand, EachHandInside, EachListedOnce, EachWaitingTells, EachFlagCovers, EachReleaseOkIsOwed, EachWakeIsConserved, EachMarkerPosts, EachFreeLockIsAnswered, EachVariableIsAnnounced};
+ghost use Rattle.lw_core.specs.Rule.{Rule, NumbersStand, EachWordIsMade, PlacesFit, EachCountsHolders, EachGuardedIsLawful, EachListInOneHand, EachHandInside, EachListedOnce, EachWaitingTells, EachFlagCovers, EachReleaseOkIsOwed, EachWakeIsConserved, EachMarkerPosts, EachFreeLockIsAnswered, EachVariableIsAnnounced};
 ghost use Rattle.lw_core.specs.Runs.{Event, Run};
 ghost use Rattle.lw_core.specs.NoLostWake.{NoWakeIsLost, NoFreeLockIsSleptFor, NoStaleSleep};
 ghost use Rattle.lw_core.specs.Promises.{KeptByEach, IsOpening, HoldsInRuns, HoldersAgree, UnheldAreLawful, LastHoldsAlone, WordsStand};
@@ -12,6 +12,15 @@ use crate::view::Size;
 /// Each number below the next stands in exactly one view.
 pub fn numbers_stand<G: Guarded>(size: Size)
     ensures { KeptByEach G.lawful size (NumbersStand size) }
+{}
+
+/// Each word is what the steps of the seats made of it: so no step leaves another value than that of
+/// its kind.
+pub fn words_are_made<G: Guarded>(size: Size)
+    requires locks { size.locks ≤ 200 }
+    requires procs { (0 < size.procs) × (size.procs ≤ 64) }
+    ensures step { KeptByEach G.lawful size (EachWordIsMade size) }
+    ensures runs { HoldsInRuns G.lawful size (EachWordIsMade size) }
 {}
 
 /// Each seat's place says rightly what the seat holds and what is to follow.

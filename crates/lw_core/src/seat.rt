@@ -3,7 +3,7 @@ ghost use Rattle.std.specs.Prelude.{◌≡◌, ◌↔◌, [], Some, None, IsTrue
 ghost use Rattle.std.specs.Borrow.{sem};
 ghost use Rattle.lw_core.specs.Machine.{mode_in, HoldsNothing};
 ghost use Rattle.lw_core.specs.Lending.{LendsList};
-ghost use Rattle.lw_core.specs.Sending.{held_for, modes_then};
+ghost use Rattle.lw_core.specs.Sending.{modes_then};
 ghost use Rattle.lw_core.specs.Seats.{IsSeated, seat_view};
 
 use crate::step::LwStep;
@@ -75,17 +75,6 @@ impl LwSeat {
         self.modes[lock.number() as usize]
     }
 
-    /// The mode in which the seat holds the step's lock.
-    #[inline(always)]
-    pub(crate) fn held_for(&self, step: &LwStep) -> Option<Mode>
-        ensures { result ≡ held_for step.now self.now.view }
-    {
-        match step.lock() {
-            Some(lock) => self.mode_of(lock),
-            None => None,
-        }
-    }
-
     /// How often the seat poked somebody.
     pub fn pokes(&self) -> u32
         ensures { result ≡ self.now.view.pokes }
@@ -114,12 +103,18 @@ impl LwSeat {
     }
 }
 
-/// Keeps the mode of a step's lock.
+/// Keeps the mode of the lock that a step granted or let go.
 #[inline(always)]
-pub(crate) fn keep_mode(modes: &mut [Option<Mode>; 200], lock: Option<LockNo>, mode: Option<Mode>)
-    ensures { modes.new ≡ modes_then lock mode modes.old }
+pub(crate) fn keep_mode(modes: &mut [Option<Mode>; 200], step: &LwStep, found: u64)
+    ensures { modes.new ≡ modes_then step.now found modes.old }
 {
-    if let Some(lock) = lock {
-        modes[lock.number() as usize] = mode;
+    match *step {
+        LwStep::Grant(lock, mode, from) => {
+            if found == from {
+                modes[lock.number() as usize] = Some(mode);
+            }
+        }
+        LwStep::Sub(lock, _, _) => modes[lock.number() as usize] = None,
+        _ => {}
     }
 }

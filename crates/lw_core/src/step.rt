@@ -1,12 +1,12 @@
 //! The steps of the lock machine, and the calls that begin with one.
 ghost use Rattle.std.specs.Prelude.{◌≡◌, ◌≤◌};
-ghost use Rattle.lw_core.specs.Machine.{exchanges, lock_of, word_of};
-ghost use Rattle.lw_core.specs.Ops.{mode_then, op_of};
+ghost use Rattle.lw_core.specs.Machine.{exchanges, word_of};
+ghost use Rattle.lw_core.specs.Ops.{op_of};
 ghost use Rattle.lw_core.specs.Sending.{pokes_by};
 
 use crate::view::Size;
 use crate::words::{
-    HAS_WAITERS, LOCKED, RELEASE_OK, grant, guarded_word, held_grant, sem_word, state_word,
+    HAS_WAITERS, LOCKED, RELEASE_OK, grant, guarded_word, sem_word, state_word,
     variable_word, waiting_word,
 };
 use proc_table::{LockNo, Mode, ProcNo};
@@ -50,8 +50,8 @@ pub enum LwStep {
     Grant(LockNo, Mode, u64),
     /// Exchanges the state word that was found, which isn't free for the mode, for itself.
     Refuse(LockNo, Mode, u64),
-    /// Takes the seat's grant from the state word.
-    Sub(LockNo, Option<Call>),
+    /// Takes the seat's grant of this mode from the state word.
+    Sub(LockNo, Mode, Option<Call>),
     /// Reads the state word to see whether an exclusive holder is there.
     Peek(LockNo, Option<Call>),
     /// Reads or writes one of the lock's four guarded words; a call of its own.
@@ -103,33 +103,6 @@ pub(crate) enum WordOp {
 }
 
 impl LwStep {
-    /// The lock that the step is on.
-    #[inline(always)]
-    pub(crate) fn lock(&self) -> Option<LockNo>
-        ensures { result ≡ lock_of self.now }
-    {
-        match *self {
-            LwStep::Load(lock, _) => Some(lock),
-            LwStep::Grant(lock, _, _) => Some(lock),
-            LwStep::Refuse(lock, _, _) => Some(lock),
-            LwStep::Sub(lock, _) => Some(lock),
-            LwStep::Peek(lock, _) => Some(lock),
-            LwStep::Guard(lock, _, _) => Some(lock),
-            LwStep::Lock(lock, _) => Some(lock),
-            LwStep::VarLoad(lock) => Some(lock),
-            LwStep::VarStore(lock, _) => Some(lock),
-            LwStep::Unlock(lock, _) => Some(lock),
-            LwStep::Flag(lock) => Some(lock),
-            LwStep::Wake(lock, _, _) => Some(lock),
-            LwStep::SetReleaseOk(lock) => Some(lock),
-            LwStep::WaitStore(_, _) => None,
-            LwStep::WaitLoad => None,
-            LwStep::Post(_, _) => None,
-            LwStep::Look(_) => None,
-            LwStep::Down => None,
-        }
-    }
-
     /// The word that a step of this backend is on.
     #[inline(always)]
     pub(crate) fn word(&self, size: Size, own: ProcNo) -> usize
@@ -140,7 +113,7 @@ impl LwStep {
             LwStep::Load(lock, _) => state_word(lock),
             LwStep::Grant(lock, _, _) => state_word(lock),
             LwStep::Refuse(lock, _, _) => state_word(lock),
-            LwStep::Sub(lock, _) => state_word(lock),
+            LwStep::Sub(lock, _, _) => state_word(lock),
             LwStep::Peek(lock, _) => state_word(lock),
             LwStep::Guard(lock, at, _) => guarded_word(lock, at),
             LwStep::Lock(lock, _) => state_word(lock),
@@ -158,16 +131,16 @@ impl LwStep {
         }
     }
 
-    /// The operation, for a seat that has the step's lock in this mode.
+    /// The operation.
     #[inline(always)]
-    pub(crate) fn op(&self, held: Option<Mode>) -> WordOp
-        ensures { result ≡ op_of self.now held }
+    pub(crate) fn op(&self) -> WordOp
+        ensures { result ≡ op_of self.now }
     {
         match *self {
             LwStep::Load(_, _) => WordOp::Load,
             LwStep::Grant(_, mode, from) => WordOp::Change(from, from.wrapping_add(grant(mode))),
             LwStep::Refuse(_, _, from) => WordOp::Change(from, from),
-            LwStep::Sub(_, _) => WordOp::Sub(held_grant(held)),
+            LwStep::Sub(_, mode, _) => WordOp::Sub(grant(mode)),
             LwStep::Peek(_, _) => WordOp::Load,
             LwStep::Guard(_, _, GuardOp::Load) => WordOp::Load,
             LwStep::Guard(_, _, GuardOp::Store(value)) => WordOp::Store(value),
@@ -208,18 +181,6 @@ impl LwStep {
             LwStep::Wake(_, from, _) => found == from,
             LwStep::Look(_) => false,
             _ => true,
-        }
-    }
-
-    /// The mode in which the seat has the step's lock afterwards.
-    #[inline(always)]
-    pub(crate) fn mode_after(&self, held: Option<Mode>, found: u64) -> Option<Mode>
-        ensures { result ≡ mode_then self.now held found }
-    {
-        match *self {
-            LwStep::Grant(_, mode, from) => { if found == from { Some(mode) } else { held } }
-            LwStep::Sub(_, _) => None,
-            _ => held,
         }
     }
 

@@ -7,7 +7,7 @@ ghost use Rattle.lw_core.specs.declared.step.LwStep.TheVariants.{Guard};
 ghost use Rattle.lw_core.specs.declared.view.Frame.TheVariants.{Asleep};
 ghost use Rattle.lw_core.specs.Ops.{about};
 ghost use Rattle.lw_core.specs.Told.{KnowsAll, Tells, does};
-ghost use Rattle.lw_core.specs.Sending.{HasSlot, IsApart, IsSending, IsTaking, ListAfter, SendsHome, held_for};
+ghost use Rattle.lw_core.specs.Sending.{HasSlot, IsApart, IsSending, IsTaking, ListAfter, SendsHome};
 ghost use Rattle.lw_core.specs.Runs.{drew_one, stays, both};
 ghost use Rattle.lw_core.specs.Closing.{Ends, size_of};
 ghost use Rattle.lw_core.specs.Machine.{IsInRange, top, HoldsNothing, hold_in, known_at, learnt, written, mode_in, Allowed, next, exchanges, fresh};
@@ -161,7 +161,6 @@ impl<G: Guarded> LwTable<G> {
         &self,
         seat: &mut Seat<Waiters, View>,
         own: ProcNo,
-        held: Option<Mode>,
         step: LwStep,
     ) -> u64
         requires table { seat.old.table_id ≡ self.now.table_id }
@@ -169,7 +168,6 @@ impl<G: Guarded> LwTable<G> {
         requires range { IsInRange (size_of self.now) step }
         requires allowed { Allowed G.lawful step seat.old.me.0 }
         requires own { seat.old.me.0.own ≡ Some own }
-        requires held { held ≡ held_for step seat.old.me.0 }
         requires carried { HasSlot step seat.old.me.0 seat.old.me.1 }
         requires doing { (K.size ≡ size_of self.now) × (K.step ≡ step) }
         ensures table { (seat.new.table_id ≡ seat.old.table_id) × (seat.new.id ≡ seat.old.id) }
@@ -177,7 +175,7 @@ impl<G: Guarded> LwTable<G> {
         ensures few { self.now.procs ≤ 64 }
     {
         let word = step.word(self.size, own);
-        turn::<K, G>(&self.table.shared, seat, word, step.op(held))
+        turn::<K, G>(&self.table.shared, seat, word, step.op())
     }
 
     // Sets LOCKED. Where it wasn't set the list leaves its slot.
@@ -195,8 +193,7 @@ impl<G: Guarded> LwTable<G> {
         ensures few { self.now.procs ≤ 64 }
     {
         let slot = lock.number() as usize;
-        let held = seat.mode_of(lock);
-        let old = self.make::<Brand>(&mut seat.seat, seat.number, held, step);
+        let old = self.make::<Brand>(&mut seat.seat, seat.number, step);
         if old / LOCKED % 2 == 0 {
             seat.list.items = self
                 .table
@@ -223,10 +220,9 @@ impl<G: Guarded> LwTable<G> {
         ensures few { self.now.procs ≤ 64 }
     {
         let slot = lock.number() as usize;
-        let held = seat.mode_of(lock);
         let list = mem::replace(&mut seat.list.items, ArrayVec::new());
         self.table.shared.exchange(&mut seat.seat, slot, list);
-        let old = self.make::<Brand>(&mut seat.seat, seat.number, held, step);
+        let old = self.make::<Brand>(&mut seat.seat, seat.number, step);
         if !step.exchanges(old) {
             seat.list.items = self
                 .table
@@ -250,9 +246,8 @@ impl<G: Guarded> LwTable<G> {
         ensures holds { length seat.new.view.holds ≡ 200 }
         ensures few { self.now.procs ≤ 64 }
     {
-        let held = seat.held_for(&step);
-        let old = self.make::<Brand>(&mut seat.seat, seat.number, held, step);
-        keep_mode(&mut seat.modes, step.lock(), step.mode_after(held, old));
+        let old = self.make::<Brand>(&mut seat.seat, seat.number, step);
+        keep_mode(&mut seat.modes, &step, old);
         seat.pokes += step.pokes();
         if let LwStep::Down = step {
             seat.backoff.reset();

@@ -123,6 +123,9 @@ pub struct View {
     /// Its place, and the steps that it made.
     pub place: LinkedList<Frame>,
     pub steps: LinkedList<Made>,
+    /// The steps of the seats that were joined into it, each with the number of the backend that
+    /// made it.
+    pub inherited: LinkedList<(u64, Made)>,
     /// What it has of each of 200 locks, and its grants.
     pub holds: LinkedList<Hold>,
     pub grants: u64,

@@ -1,6 +1,6 @@
 //! Where each word of a table lies, and how the words open.
 ghost use Rattle.std.specs.Prelude.{◌≡◌, ◌≤◌, IfOk, length};
-ghost use Rattle.lw_core.specs.Words.{grant_of, grant_held, guard_at, sem_at, state_at, var_at, waiting_at, word_count, Opens};
+ghost use Rattle.lw_core.specs.Words.{grant_of, guard_at, sem_at, state_at, var_at, waiting_at, word_count, Opens};
 ghost use Rattle.lw_core.specs.WaitLists.{AllEmpty};
 
 use crate::view::{Size, Waiters};
@@ -24,15 +24,6 @@ pub(crate) fn grant(mode: Mode) -> u64
     match mode {
         Mode::Shared => GRANT_SHARED,
         Mode::Exclusive => GRANT_EXCLUSIVE,
-    }
-}
-
-pub(crate) fn held_grant(held: Option<Mode>) -> u64
-    ensures { result ≡ grant_held held }
-{
-    match held {
-        None => 0,
-        Some(mode) => grant(mode),
     }
 }
 

@@ -1,5 +1,6 @@
 -- What a wake does with the list that it found.
-use Rattle.std.specs.Prelude.{◌≡◌, ℕ, ◌-◌, Bool, true, false, cond, not, count_by, List, [], ◌∷◌, ◌++◌, Option, None}
+use Rattle.std.specs.Prelude.{◌≡◌, ℕ, ◌-◌, Bool, true, false, cond, not, count_by, List, [], ◌∷◌, ◌++◌, Option, None, Some}
+use Rattle.proc_table.specs.declared.Mode.{Mode}
 use Rattle.lw_core.specs.declared.step.Call.{Call}
 use Rattle.lw_core.specs.declared.step.LwStep.{LwStep}
 use Rattle.lw_core.specs.declared.step.LwStep.TheVariants.{Load, Lock, Sub, WaitStore, Wake, Post}
@@ -9,7 +10,7 @@ use Rattle.lw_core.specs.declared.view.Made.{Made}
 use Rattle.lw_core.specs.declared.view.View.{View}
 use Rattle.lw_core.specs.declared.view.Waiter.{Waiter}
 use Rattle.lw_core.specs.WaitLists.{taken_from, kept_from}
-use Rattle.lw_core.specs.Words.{grant_held, locked, release_ok, has_waiters, set_flag, clear_flag}
+use Rattle.lw_core.specs.Words.{grant_of, locked, release_ok, has_waiters, set_flag, clear_flag}
 use Rattle.lw_core.specs.Machine.{Place, calls_for_wake, made, mode_in, woken_word}
 use Rattle.lw_core.specs.Stances.{hand_at, hand_list}
 
@@ -113,4 +114,4 @@ WakesIf false l more = more ≡ []
 
 -- the release, which begins a call or is the last part of one, found the word, and a wake followed where the word that it left calls for one
 abbrev pub WakesRightly : ℕ → Option Call → View → View → Type 0
-WakesRightly l begins v w = (word : ℕ) × ((more : List Made) × ((w.steps ≡ v.steps ++ (made (Sub l begins) word ∷ more)) × WakesIf (calls_for_wake (word - grant_held (mode_in l v))) l more))
+WakesRightly l begins v w = (m : Mode) × (word : ℕ) × (more : List Made) × (mode_in l v ≡ Some m) × (w.steps ≡ v.steps ++ (made (Sub l m begins) word ∷ more)) × WakesIf (calls_for_wake (word - grant_of m)) l more

@@ -116,7 +116,10 @@ pub fn release<G: Guarded, R: Wait>(rt: &R, table: &LwTable<G>, seat: &mut LwSea
     ensures free { hold_in lock seat.new.view ≡ not_held }
     ensures others { (k : ℕ) → k ≢ lock → hold_in k seat.new.view ≡ hold_in k seat.old.view }
 {
-    let_go(rt, table, seat, lock, Some(Call::Release(lock)));
+    let Some(mode) = seat.mode_of(lock) else {
+        unreachable!()
+    };
+    let_go(rt, table, seat, lock, mode, Some(Call::Release(lock)));
 }
 
 #[cfg(test)]

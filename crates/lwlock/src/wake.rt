@@ -1,11 +1,11 @@
 //! A release, and its wake: who is taken off the list and woken.
-ghost use Rattle.std.specs.Prelude.{◌≡◌, ◌<◌, ◌≤◌, ◌^◌, ◌-◌, not, [], ◌∷◌};
+ghost use Rattle.std.specs.Prelude.{◌≡◌, ◌<◌, ◌≤◌, ◌^◌, ◌-◌, not, [], ◌∷◌, Some};
 ghost use Rattle.lw_core.specs.declared.view.Frame.TheVariants.{TakingList, Waking, Marking};
 ghost use Rattle.lw_core.specs.declared.view.Want.TheVariants.{Exclusive, UntilFree};
-ghost use Rattle.lw_core.specs.Machine.{BeginsRelease, LeavesLawful, calls_for_wake, hold_in, not_held, outer, releasing, telling};
+ghost use Rattle.lw_core.specs.Machine.{BeginsRelease, LeavesLawful, calls_for_wake, hold_in, mode_in, not_held, outer, releasing, telling};
 ghost use Rattle.lw_core.specs.Programs.{BeginsNone, MakesFrom};
 ghost use Rattle.lw_core.specs.WaitLists.{AllBelow, has_locker, kept_from, same_want, taken_from};
-ghost use Rattle.lw_core.specs.Words.{grant_held};
+ghost use Rattle.lw_core.specs.Words.{grant_of};
 ghost use Rattle.lwlock.specs.Calls.{Released, Went};
 ghost use Rattle.lwlock.specs.Wakes.{Exchanged, Wakes, WakesRightly, WentBy, answered_to, found_at, marked_by, marking, told_by, updated_at, updates_at, woken_to};
 
@@ -22,13 +22,12 @@ const RELEASE_OK: u64 = 0x2000_0000;
 const HAS_WAITERS: u64 = 0x4000_0000;
 
 // What a release in this mode left of the word.
-pub(crate) fn left_word(word: u64, held: Option<Mode>) -> u64
-    ensures { result ≡ word - grant_held held }
+pub(crate) fn left_word(word: u64, mode: Mode) -> u64
+    ensures { result ≡ word - grant_of mode }
 {
-    match held {
-        None => word,
-        Some(Mode::Shared) => word.saturating_sub(1),
-        Some(Mode::Exclusive) => word.saturating_sub(EXCLUSIVE),
+    match mode {
+        Mode::Shared => word.saturating_sub(1),
+        Mode::Exclusive => word.saturating_sub(EXCLUSIVE),
     }
 }
 
@@ -228,11 +227,13 @@ pub fn let_go<G: Guarded, R: Wait>(
     table: &LwTable<G>,
     seat: &mut LwSeat,
     lock: LockNo,
+    mode: Mode,
     begins: Option<Call>,
 )
     requires table { seat.old.table_id ≡ table.now.table_id }
     requires lock { lock < table.now.locks }
     requires place { BeginsRelease lock begins seat.old.view }
+    requires held { mode_in lock seat.old.view ≡ Some mode }
     requires last { releasing begins seat.old.view.place ≡ [] }
     requires lawful { LeavesLawful (G.lawful lock) (hold_in lock seat.old.view) }
     ensures table { (seat.new.table_id ≡ seat.old.table_id) × (seat.new.id ≡ seat.old.id) }
@@ -241,9 +242,8 @@ pub fn let_go<G: Guarded, R: Wait>(
     ensures program { MakesFrom begins seat.old.view seat.new.view }
     ensures free { hold_in lock seat.new.view ≡ not_held }
 {
-    let held = seat.mode_of(lock);
-    let word = table.step(seat, LwStep::Sub(lock, begins)).old;
-    if wakes_after(left_word(word, held)) {
+    let word = table.step(seat, LwStep::Sub(lock, mode, begins)).old;
+    if wakes_after(left_word(word, mode)) {
         wake(rt, table, seat, lock);
     }
 }

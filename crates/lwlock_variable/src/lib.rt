@@ -21,7 +21,7 @@ mod waiters;
 use compare::compare;
 use lw_core::{Call, Guarded, LwSeat, LwStep, LwTable};
 use lwlock::steps::{give_back, let_go, mark, take_list, tell};
-use proc_table::LockNo;
+use proc_table::{LockNo, Mode};
 use rounds::wait;
 use std::sync::Wait;
 use waiters::take_until_free;
@@ -128,7 +128,7 @@ pub fn release_clear_var<G: Guarded, R: Wait>(
     take_list(rt, table, seat, lock, begins);
     table.step(seat, LwStep::VarStore(lock, value));
     table.step(seat, LwStep::Unlock(lock, false));
-    let_go(rt, table, seat, lock, None);
+    let_go(rt, table, seat, lock, Mode::Exclusive, None);
 }
 
 #[cfg(test)]

@@ -1,3 +1,4 @@
 pub mod Totals
 pub mod Stretches
 pub mod Numbers
+pub mod WordsAreMade

@@ -17,6 +17,10 @@ module _ {A : Type 0} (f : A → ℕ) where
   total_snoc [] v = omega arith
   total_snoc (x ∷ xs) v = let r = total_snoc xs v in omega arith
 
+  pub total_append : (l m : List A) → total f (l ++ m) ≡ total f l + total f m
+  total_append [] m = omega arith
+  total_append (x ∷ xs) m = let r = total_append xs m in omega arith
+
   pub total_at : (l : List A) (i : ℕ) (v : A) → get_elem? l i ≡ some v → f v ≤ total f l
   total_at [] i v e = absurd (some-ne-none v (sym e))
   total_at (x ∷ xs) zero v e = let is : f x ≡ f v = ap f (some-injective x v e) in omega arith

@@ -199,9 +199,11 @@ pub(crate) fn wakes<R: Abort>(
     ensures idle { (seat.new.view.place ≡ []) × (mode_in lock seat.new.view ≡ None) }
 {
     let [held, word, locked] = found;
-    let mode = seat.mode_of(lock);
+    let Some(mode) = seat.mode_of(lock) else {
+        unreachable!()
+    };
     let begins = Some(Call::Release(lock));
-    line(rt, table.step(seat, LwStep::Sub(lock, begins)), held, true);
+    line(rt, table.step(seat, LwStep::Sub(lock, mode, begins)), held, true);
     assert!(rt; wakes_after(left_word(held, mode)) && list_is_home(word));
     line(rt, table.step(seat, LwStep::Lock(lock, None)), word, true);
     let taken = part(&mut seat.list().items);
@@ -249,7 +251,7 @@ fn last_release_wakes_the_waiter(rt: HostRuntime) -> Result<(), Fail> {
     line(&rt, table.step(&mut two, LwStep::Look(None)), 0, false);
     line(
         &rt,
-        table.step(&mut zero, LwStep::Sub(lock, Some(Call::Release(lock)))),
+        table.step(&mut zero, LwStep::Sub(lock, Mode::Shared, Some(Call::Release(lock)))),
         0x6000_0002,
         true,
     );

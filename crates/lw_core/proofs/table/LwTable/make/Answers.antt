@@ -9,5 +9,5 @@ use Rattle.lw_core.proofs.table.LwTable.make.Goals as goal
 pub turn-requires-clause-owes : goal.turn-requires-clause-owes
 turn-requires-clause-owes g c = let table = c.self.inside.table.shared in let seat = c.args.seat.now in let sized = ap size_of c.self.view_is in
     subst (λ (k : LwStep). Owes g.G.Guarded.lawful table.key table.table_id.slots seat.id seat.me c.word-word.result (gives c.op.result) k) (sym c.requires.doing.1)
-    (owes g.G.Guarded.lawful table.key (size_of c.args.self.now) c.args.step seat.me table.table_id.slots seat.id c.args.own c.word-word.result c.args.held c.op.result
-    (c.self.invariant.keyed ∙ sized) c.requires.own c.requires.held c.requires.range c.requires.allowed c.requires.carried (c.word-word.ensures ∙ ap (λ z. word_of z c.args.own c.args.step) sized) c.op.ensures)
+    (owes g.G.Guarded.lawful table.key (size_of c.args.self.now) c.args.step seat.me table.table_id.slots seat.id c.args.own c.word-word.result c.op.result
+    (c.self.invariant.keyed ∙ sized) c.requires.own c.requires.range c.requires.allowed c.requires.carried (c.word-word.ensures ∙ ap (λ z. word_of z c.args.own c.args.step) sized) c.op.ensures)
