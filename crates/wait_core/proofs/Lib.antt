@@ -7,6 +7,7 @@ pub mod Nesting
 pub mod RuleKept
 pub mod Untouched
 pub mod WordsAreMade
+pub mod BarriersKept
 pub mod SeatsKept
 pub mod Openings
 pub mod Asks

@@ -11,6 +11,7 @@ pub mod ClientHolds
 pub mod WordsAreMade
 pub mod Slots
 pub mod LeftAreFree
+pub mod Barriers
 pub mod Rule
 pub mod Wakes
 pub mod Runs
