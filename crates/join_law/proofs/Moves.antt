@@ -41,14 +41,14 @@ module _ (j : Join) (m : Memory) (lists : List (List ℕ)) (growth : Option (ℕ
         fit = p.fit;
         place = place_still j m lists growth views phases p id v w at (λ _. refl);
         links = p.links;
-        next = record { stored = each_set _ views id w p.next.stored k.next };
-        hashes = record { listed = p.hashes.listed; known = each_set _ views id w p.hashes.known k.hashed };
+        next = record { stored = each_set _ views id w p.next.stored k.hand.next };
+        hashes = record { listed = p.hashes.listed; known = each_set _ views id w p.hashes.known k.hand.hashed };
         routes = p.routes;
         hands = record {
-          inner = each_set _ views id w p.hands.inner (λ r more inner. ⊎_elim (λ o. inl (hand r more 0 HASH_INNER o, o.1)) (λ o. inr (o.0, o.1, (hand r more 0 RUN o.2, (o.2).1), (hand r more (batch_bar (batch_of z o.0)) LOAD o.3, (o.3).1))) (k.inner r more inner));
-          outer = each_set _ views id w p.hands.outer (λ r more outer. ⊎_elim (λ o. inl (hand r more 0 HASH_OUTER o, o.1)) (λ o. inr (o.0, o.1, (hand r more 0 RUN o.2, (o.2).1), (hand r more (batch_bar (batch_of z o.0)) PROBE o.3, (o.3).1))) (k.outer r more outer));
+          inner = each_set _ views id w p.hands.inner (λ r more inner. ⊎_elim (λ o. inl (hand r more 0 HASH_INNER o, o.1)) (λ o. inr (o.0, o.1, (hand r more 0 RUN o.2, (o.2).1), (hand r more (batch_bar (batch_of z o.0)) LOAD o.3, (o.3).1))) (k.hand.inner r more inner));
+          outer = each_set _ views id w p.hands.outer (λ r more outer. ⊎_elim (λ o. inl (hand r more 0 HASH_OUTER o, o.1)) (λ o. inr (o.0, o.1, (hand r more 0 RUN o.2, (o.2).1), (hand r more (batch_bar (batch_of z o.0)) PROBE o.3, (o.3).1))) (k.hand.outer r more outer));
         };
-        gone = record { aside = each_set _ views id w p.gone.aside k.aside; given = each_set _ views id w p.gone.given k.given; probed = each_set _ views id w p.gone.probed k.probed };
+        gone = record { aside = each_set _ views id w p.gone.aside k.gone.aside; given = each_set _ views id w p.gone.given k.gone.given; probed = each_set _ views id w p.gone.probed k.gone.probed };
         count = count_still m.results views id v w at refl p.count;
         cursors = cursors_still j m.inner_cursor m.outer_cursor phases views id v w at refl refl refl refl p.cursors;
         attached = record {
@@ -58,7 +58,7 @@ module _ (j : Join) (m : Memory) (lists : List (List ℕ)) (growth : Option (ℕ
           manned = manned;
           unbegun = p.attached.unbegun;
         };
-        seen = record { emptied = each_set _ views id w p.seen.emptied k.emptied; drained = each_set _ views id w p.seen.drained k.drained; done = each_set _ views id w p.seen.done k.done; late = each_set _ views id w p.seen.late k.late };
+        seen = record { emptied = each_set _ views id w p.seen.emptied k.seen.emptied; drained = each_set _ views id w p.seen.drained k.seen.drained; done = each_set _ views id w p.seen.done k.seen.done; late = each_set _ views id w p.seen.late k.seen.late };
         takes = record { fits = each_set _ views id w p.takes.fits k.takes };
         walks = record { fits = each_set _ views id w p.walks.fits k.walks };
         known = record { fits = each_set _ views id w p.known.fits k.known };
@@ -184,15 +184,15 @@ elect_keeps j m lists growth views phases p id v bar ph at =
       fit = p.fit;
       place = place_still j m lists growth views phases p id v w at (λ _. refl);
       links = p.links;
-      next = record { stored = each_set _ views id w p.next.stored k.next };
-      hashes = record { listed = p.hashes.listed; known = each_set _ views id w p.hashes.known k.hashed };
+      next = record { stored = each_set _ views id w p.next.stored k.hand.next };
+      hashes = record { listed = p.hashes.listed; known = each_set _ views id w p.hashes.known k.hand.hashed };
       routes = p.routes;
-      hands = record { inner = each_set _ views id w p.hands.inner k.inner; outer = each_set _ views id w p.hands.outer k.outer };
-      gone = record { aside = each_set _ views id w p.gone.aside k.aside; given = each_set _ views id w p.gone.given k.given; probed = each_set _ views id w p.gone.probed k.probed };
+      hands = record { inner = each_set _ views id w p.hands.inner k.hand.inner; outer = each_set _ views id w p.hands.outer k.hand.outer };
+      gone = record { aside = each_set _ views id w p.gone.aside k.gone.aside; given = each_set _ views id w p.gone.given k.gone.given; probed = each_set _ views id w p.gone.probed k.gone.probed };
       count = count_still m.results views id v w at refl p.count;
       cursors = cursors_still j m.inner_cursor m.outer_cursor phases views id v w at refl refl refl refl p.cursors;
       attached = attached_still j phases views id v w at refl p.attached;
-      seen = record { emptied = each_set _ views id w p.seen.emptied k.emptied; drained = each_set _ views id w p.seen.drained k.drained; done = each_set _ views id w p.seen.done k.done; late = each_set _ views id w p.seen.late k.late };
+      seen = record { emptied = each_set _ views id w p.seen.emptied k.seen.emptied; drained = each_set _ views id w p.seen.drained k.seen.drained; done = each_set _ views id w p.seen.done k.seen.done; late = each_set _ views id w p.seen.late k.seen.late };
       takes = record { fits = each_set _ views id w p.takes.fits k.takes };
       walks = record { fits = each_set _ views id w p.walks.fits k.walks };
       known = record { fits = each_set _ views id w p.known.fits k.known };
