@@ -16,7 +16,8 @@ use Rattle.join_law.specs.Quiet.{Quiet, Enters, Stays, bar_quiet}
 use Rattle.join_law.specs.Machine.{At}
 use Rattle.join_law.specs.Views.{V}
 use Rattle.join_law.specs.Stands.{There, on_bar, Parts}
-use Rattle.join_law.proofs.Views.{cursors_still, attached_still, stored_still, count_still, growth_still}
+use Rattle.join_law.proofs.Views.{attached_still, stored_still, count_still, growth_still}
+use Rattle.join_law.proofs.Cursors.{cursors_still}
 use Rattle.join_law.proofs.ClientMoves.{knows_of, place_still}
 
 module _ (j : Join) (m : Memory) (lists : List (List ℕ)) (growth : Option (ℕ × ℕ)) (views : List V) (phases : List ℕ) (p : Parts j m lists growth views phases) (id : ℕ) (v : V) (at : There views id v) where

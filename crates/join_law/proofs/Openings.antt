@@ -88,14 +88,8 @@ module _ (j : Join) (meet : RowsMeet j) (fit : SizesFit j (first_sizes j)) where
     gone = record { aside = λ id v at. absurd (nobody id v at); given = λ id v at. absurd (nobody id v at); probed = λ id v at. absurd (nobody id v at) };
     count = record { count = refl };
     cursors = record {
-      inner_past = λ past. absurd (omega arith);
-      outer_past = λ past. absurd (omega arith);
-      inner_seen = λ id v at. absurd (nobody id v at);
-      outer_seen = λ id v at. absurd (nobody id v at);
-      inner_few = omega arith;
-      outer_few = omega arith;
-      inner_near = omega arith;
-      outer_near = omega arith;
+      inner = record { past = λ past. absurd (omega arith); seen = λ id v at. absurd (nobody id v at); few = omega arith; near = omega arith };
+      outer = record { past = λ past. absurd (omega arith); seen = λ id v at. absurd (nobody id v at); few = omega arith; near = omega arith };
     };
     attached = record {
       grows = λ id v at. absurd (nobody id v at);

@@ -232,14 +232,16 @@ looked j v (GiveUp row) n = record (dropped v.client row) { given = row ∷ v.cl
 looked j v (Done batch) n = record (v.client) { done = batch ∷ v.client.done }
 looked j v Late n = record (v.client) { late = true }
 
+-- so many rows from the first one come to hand. A chunk of inner rows is counted
+abbrev pub claimed_rows : HashView → ℕ → ℕ → ℕ → HashView
+claimed_rows v first count chunk = record v { hand = v.hand ++ stretch first count; chunks = v.chunks + chunk; claimed = v.claimed + count }
+
 -- what a claim gives that found the cursor at n
 abbrev pub claimed_inner : Join → V → ℕ → HashView
-claimed_inner j v n = cond (nat_le j.inner n) (record (v.client) { inner_ended = true; inner_claims = v.client.inner_claims - 1 })
-    (record (v.client) { hand = v.client.hand ++ stretch n (min 64 (j.inner - n)); chunks = v.client.chunks + 1; claimed = v.client.claimed + min 64 (j.inner - n) })
+claimed_inner j v n = cond (nat_le j.inner n) (record (v.client) { inner_ended = true; inner_claims = v.client.inner_claims - 1 }) (claimed_rows v.client n (min 64 (j.inner - n)) 1)
 
 abbrev pub claimed_outer : Join → V → ℕ → HashView
-claimed_outer j v n = cond (nat_le j.outer n) (record (v.client) { outer_ended = true; outer_claims = v.client.outer_claims - 1 })
-    (record (v.client) { hand = v.client.hand ++ stretch (j.inner + n) (min 64 (j.outer - n)); claimed = v.client.claimed + min 64 (j.outer - n) })
+claimed_outer j v n = cond (nat_le j.outer n) (record (v.client) { outer_ended = true; outer_claims = v.client.outer_claims - 1 }) (claimed_rows v.client (j.inner + n) (min 64 (j.outer - n)) 0)
 
 abbrev pub pushed : HashView → ℕ → HashView
 pushed v row = dropped v row

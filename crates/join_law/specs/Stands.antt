@@ -1,5 +1,5 @@
 -- Where each row of the join stands: what holds between any two steps, in parts.
-use Rattle.std.specs.Prelude.{◌≡◌, ◌⊎◌, ℕ, suc, ◌+◌, ◌*◌, ◌%◌, ◌^◌, ◌<◌, ◌≤◌, min, cond, true, false, List, [], ◌∷◌, ◌++◌, length, get_or, Option, Some, None}
+use Rattle.std.specs.Prelude.{◌≡◌, ◌⊎◌, ℕ, suc, ◌+◌, ◌*◌, ◌%◌, ◌^◌, ◌<◌, ◌≤◌, min, cond, Bool, true, false, List, [], ◌∷◌, ◌++◌, length, get_or, Option, Some, None}
 use Rattle.std.specs.Int.{IsPowerOfTwo}
 use mathlib.Core.Option as maybe
 use lib.ListN.{get_elem?}
@@ -15,7 +15,7 @@ use Rattle.join_law.specs.declared.step.Source.{Source}
 use Rattle.join_law.specs.declared.step.Source.TheVariants as from
 use Rattle.join_law.specs.Layout.{Join, Memory, SizesOf, Laid, flat, sizes_of, rows, heads, store_no, outer_no}
 use Rattle.join_law.specs.Routes.{batch_of, chain_at, store_at, outer_at, hashed_at, before_growth, old_head, old_heads}
-use Rattle.join_law.specs.Views.{V, spent_view, claimed_by, held, results_of, inner_claims, outer_claims, below, unclaimed}
+use Rattle.join_law.specs.Views.{V, spent_view, claimed_by, held, results_of, inner_ended, outer_ended, inner_claims, outer_claims, below, unclaimed}
 use Rattle.join_law.specs.Phases.{On, UnderWay, growth_phase, batch_bar, HASH_INNER, HASH_OUTER, RUN, FREE, LOAD, PROBE, SCAN}
 
 -- the list at a head
@@ -118,16 +118,16 @@ pub record Gone (j : Join) (views : List V) : Type 0 where
 pub record Counted (results : ℕ) (views : List V) : Type 0 where
   pub count : results ≡ total results_of views % 2 ^ 64
 
--- CURSORS: a cursor is at its end once its phase has passed, or a seat saw it there; it never comes far beyond
-pub record Cursors (j : Join) (inner outer : ℕ) (phases : List ℕ) (views : List V) : Type 0 where
-  pub inner_past : HASH_OUTER ≤ now phases 0 → j.inner ≤ inner
-  pub outer_past : RUN ≤ now phases 0 → j.outer ≤ outer
-  pub inner_seen : (id : ℕ) (v : V) → There views id v → v.client.inner_ended ≡ true → j.inner ≤ inner
-  pub outer_seen : (id : ℕ) (v : V) → There views id v → v.client.outer_ended ≡ true → j.outer ≤ outer
-  pub inner_few : total inner_claims views ≤ length views
-  pub outer_few : total outer_claims views ≤ length views
-  pub inner_near : inner + 64 * total inner_claims views ≤ j.inner + 64 + 64 * length views
-  pub outer_near : outer + 64 * total outer_claims views ≤ j.outer + 64 + 64 * length views
+-- CURSORS: a side's cursor is at its end once the side's phase has passed, or a seat saw it there. It never comes far beyond
+pub record CursorFits (count cursor next : ℕ) (ended : V → Bool) (claims : V → ℕ) (phases : List ℕ) (views : List V) : Type 0 where
+  pub past : next ≤ now phases 0 → count ≤ cursor
+  pub seen : (id : ℕ) (v : V) → There views id v → ended v ≡ true → count ≤ cursor
+  pub few : total claims views ≤ length views
+  pub near : cursor + 64 * total claims views ≤ count + 64 + 64 * length views
+
+pub record Cursors (j : Join) (inner_at outer_at : ℕ) (phases : List ℕ) (views : List V) : Type 0 where
+  pub inner : CursorFits j.inner inner_at HASH_OUTER inner_ended inner_claims phases views
+  pub outer : CursorFits j.outer outer_at RUN outer_ended outer_claims phases views
 
 -- ATTACHED: who is on a growth barrier is on build at HASH_INNER, and who is on a batch is on build at RUN. A growth barrier past ELECT has a seat attached. Before RUN no batch was begun
 abbrev pub on_bar : ℕ → V → ℕ
