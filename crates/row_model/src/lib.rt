@@ -4,10 +4,12 @@
 ghost use Rattle.std.specs.Prelude.{◌≡◌};
 
 mod build;
+mod routes;
 mod rows;
 
 pub use build::RowsBuilder;
 use proc_table::NoMemory;
+pub use routes::Route;
 pub use rows::{Rows, same};
 
 /// The most columns of a table.

@@ -2,7 +2,7 @@
 
 ghost use Rattle.std.specs.Prelude.{◌≡◌, ◌<◌};
 
-use crate::{RecordFault, RowFault, Rows, RowsBuilder, same};
+use crate::{RecordFault, Route, RowFault, Rows, RowsBuilder, same};
 use proc_table::Steps;
 use std::alloc::Global;
 use std::marker::Brand;
@@ -79,4 +79,16 @@ fn a_refusal_comes_again(rt: HostRuntime) {
     assert_eq!(rt; builder.end_record(), ragged);
     assert_eq!(rt; add(&mut builder, "1", "one"), ragged);
     assert_eq!(rt; builder.finish().err(), ragged.err());
+}
+
+#[test]
+fn routes_are_the_low_bits_and_then_the_next(rt: HostRuntime) {
+    let cases = [
+        (0xe40c_292c, 0, 1),
+        (0xe70c_2de5, 1, 1),
+        (0xbf9c_f968, 0, 0),
+    ];
+    for (hash, bucket, batch) in cases {
+        assert_eq!(rt; Route::of(hash, 4, 2), Route { bucket, batch });
+    }
 }

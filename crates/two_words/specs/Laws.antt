@@ -93,6 +93,14 @@ join_keeps_balance words views phases id other v w b j =
     let long = length-set (set views id x) other y ∙ length-set views id x in
     record { two = b.two; second = omega arith; first = omega arith; one_each = omega arith }
 
+-- a seat that attaches, notices, is elected or detaches has done what it had done before
+pub same_balance : (words : List ℕ) (views : List V) (id : ℕ) (v w : V) → Balanced words views → get_elem? views id ≡ some v → w.client ≡ v.client → Balanced words (set views id w)
+same_balance words views id v w b at same =
+    let l : left_of w ≡ left_of v = ap (λ (c : Progress). c.left) same in
+    let m : between_of w ≡ between_of v = ap (λ (c : Progress). c.between) same in
+    let d : done_of w ≡ done_of v = ap (λ (c : Progress). c.done) same in
+    moves words words views id v w b at b.two (omega arith) (omega arith) (omega arith)
+
 -- what the words are once one view has all that two seats came with
 pub two_done : (words : List ℕ) (views : List V) (id : ℕ) (v : V) → Balanced words views → get_elem? views id ≡ some v → v.client ≡ progress 0 0 2 → length views ≤ 2 → (get_or words 0 0 ≡ 2) × (get_or words 1 0 ≡ 2)
 two_done words views id v b at is two =

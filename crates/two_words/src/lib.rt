@@ -37,7 +37,7 @@ impl Party for TwoWords {
 
     ghost use Rattle.std.specs.Prelude.{⊤};
     ghost use Rattle.two_words.specs.Balance.{turn_op, progress, added, may_turn, turned, Balanced};
-    ghost use Rattle.two_words.specs.Laws.{turn_inside, turn_keeps, draw_keeps_balance, join_keeps_balance};
+    ghost use Rattle.two_words.specs.Laws.{turn_inside, turn_keeps, draw_keeps_balance, join_keeps_balance, same_balance};
 
     ghost word_count = { λ _. 2 };
 
@@ -57,7 +57,7 @@ impl Party for TwoWords {
 
     ghost holds = { λ _ words views phases. Balanced words views };
 
-    // It takes no part in barriers: nobody attaches, and no phase passes.
+    // It takes no part in barriers: nobody attaches, and no phase passes. Its law doesn't see who is attached.
     ghost quiet = { λ _ _ _ _. ⊤ };
 
     ghost passes = { λ _ _ _. ⊥ };
@@ -73,6 +73,16 @@ impl Party for TwoWords {
     ghost draw_keeps = { λ p words views phases proc b d. draw_keeps_balance words views proc b };
 
     ghost join_keeps = { λ p words views phases id other v w. join_keeps_balance words views phases id other v w };
+
+    ghost enter_keeps = { λ p words views phases id v w bar b s enters. absurd enters };
+
+    ghost notice_keeps = { λ p words views phases id v w bar ph b s quiet. same_balance words views id v w b s.at s.after.client };
+
+    ghost elect_keeps = { λ p words views phases id v bar ph b s. same_balance words views id v _ b s.at (λ i. v.client) };
+
+    ghost pass_keeps = { λ p words views phases bar id v b s passes. absurd passes };
+
+    ghost leave_keeps = { λ p words views phases id v w bar ph b s quiet. same_balance words views id v w b s.at s.after.client };
 
     fn words(&self) -> u32 {
         2

@@ -69,16 +69,16 @@ module _ {C : Type 0} (holds : List ℕ → List (PartyView C) → List ℕ → 
       ))
 
   -- a step of the client
-  pub client_turns : (slots id : ℕ) (me : Me Kept (WaitView C)) (word : ℕ) (op : ClientOp) (then : ℕ → C) (told : ℕ → Type 0) → word ≡ client_base z + op_at op → op_at op < count → (p : ℕ) → me.0.own ≡ Some p
+  pub client_turns : (slots id : ℕ) (me : Me Kept (WaitView C)) (word : ℕ) (op : ClientOp) (then : ℕ → C) (told : ℕ → Type 0) → word ≡ client_base z + op_at op → op_at op < count → (p : ℕ) → me.0.own ≡ Some p → me.0.place ≡ []
       → ((s : WaitState C) → Rule holds z phase count s → get_elem? s.views id ≡ maybe.some me.0 → told (get_or s.words (client_base z + op_at op) 0))
       → ((words : List ℕ) (views : List (PartyView C)) (phases : List ℕ) → holds words views phases → IsStep views phases id (party_of me.0) → holds (set words (op_at op) (op_gives op (get_or words (op_at op) 0))) (set views id (with_client (party_of me.0) (then (get_or words (op_at op) 0)))) phases)
       → Turns holds z phase count slots id me word (op_gives op) (does_client then told me)
-  client_turns slots id me word op then told at inside p own tells law = subst (λ (i : ℕ). Turns holds z phase count slots id me i (op_gives op) (does_client then told me)) (sym at)
+  client_turns slots id me word op then told at inside p own idle tells law = subst (λ (i : ℕ). Turns holds z phase count slots id me i (op_gives op) (does_client then told me)) (sym at)
       (λ s r _ there _. (
         client_moved me.0 (then (get_or s.words (client_base z + op_at op) 0)),
         keeps,
         tt,
-        client_kept holds z phase count s r id me.0 there p own (op_at op) (op_gives op) then inside law,
+        client_kept holds z phase count s r id me.0 there p own idle (op_at op) (op_gives op) then inside law,
         (refl, refl, tells s r there),
       ))
 

@@ -8,6 +8,7 @@ pub mod Hands
 pub mod RuleKept
 pub mod Untouched
 pub mod WordsAreMade
+pub mod BarriersKept
 pub mod SeatsKept
 pub mod Openings
 pub mod Asks

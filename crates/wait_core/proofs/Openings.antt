@@ -12,15 +12,18 @@ use Rattle.wait_core.specs.declared.view.PartyView.{PartyView}
 use Rattle.wait_core.specs.declared.view.Size.{Size}
 use Rattle.wait_core.specs.Words.{may_at, client_base, phases, opened, opening_words}
 use Rattle.wait_core.specs.Machine.{WaitState}
-use Rattle.wait_core.specs.Parties.{newcomer}
+use Rattle.wait_core.specs.Parties.{newcomer, Barriers}
 use Rattle.wait_core.specs.Seating.{Standing, fresh}
 use Rattle.wait_core.specs.Places.{may_sleep, past_latch, past_shutdown, backend_count}
 use Rattle.wait_core.specs.Fits.{PlacesFit}
 use Rattle.wait_core.specs.Slots.{IsAsOpened, AllAsOpened, OpeningSlots}
 use Rattle.wait_core.specs.LeftAreFree.{LeftAreFree}
+use Rattle.wait_core.specs.Barriers.{IsHere, attendance_of}
 use Rattle.wait_core.specs.Promises.{IsOpening}
 use Rattle.wait_core.specs.Rule.{Rule}
 use Rattle.seat_roster.proofs.Numbers.{roster_first}
+use Rattle.seat_roster.proofs.Stretches.{each_more}
+use Rattle.wait_core.proofs.BarriersKept.{barriers_more}
 use Rattle.wait_core.proofs.Untouched.{idle, idle_backend, places_snoc}
 
 pub length-opened : (f : ℕ → ℕ) (n : ℕ) → length (opened f n) ≡ n
@@ -47,6 +50,14 @@ module _ {C : Type 0} (holds : List ℕ → List (PartyView C) → List ℕ → 
   only_numbered zero v e none = let own = ap (λ (x : PartyView C). x.proc) (maybe.some-injective _ _ e) in absurd (cc)
   only_numbered (suc i) v e none = absurd (maybe.some-ne-none v (sym e))
 
+  nobody : Barriers {C = C} [] (phases z phase)
+  nobody = record {
+    near = λ i v e. absurd (maybe.some-ne-none v (sym e));
+    inside = λ i v e. absurd (maybe.some-ne-none v (sym e));
+    past = λ i v e. absurd (maybe.some-ne-none v (sym e));
+    one = λ i j v w e. absurd (maybe.some-ne-none v (sym e));
+  }
+
   pub length-opening : length (opening_words z f count) ≡ client_base z + count
   length-opening = length-append machine (opened f count) ∙ (λ i. long i + length-opened f count i)
 
@@ -70,6 +81,8 @@ module _ {C : Type 0} (holds : List ℕ → List (PartyView C) → List ℕ → 
     made = λ i above below. let a = zero_at i above below in omega arith;
     lists = ?;
     left = only_numbered;
+    barriers = barriers_more [] (phases z phase) c (Some 0) nobody;
+    here = each_more (IsHere (phases z phase)) [] (attendance_of (fresh c (Some 0))) (λ i v e. absurd (maybe.some-ne-none v (sym e))) (λ _ b ph e. absurd (cc));
     client = subst (λ (ws : List ℕ). holds ws (newcomer c (Some 0) ∷ []) (phases z phase)) (sym ((λ i. drop (sym long i) (machine ++ opened f count)) ∙ drop-append_seam machine (opened f count))) kept;
   }
 

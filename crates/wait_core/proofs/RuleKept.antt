@@ -24,10 +24,12 @@ use Rattle.wait_core.specs.Stances.{stance_of}
 use Rattle.wait_core.specs.Fits.{Fits, IsTarget, PlacesFit}
 use Rattle.wait_core.specs.ListsStand.{ListsStand}
 use Rattle.wait_core.specs.LeftAreFree.{LeftAreFree}
+use Rattle.wait_core.specs.Parties.{Barriers}
+use Rattle.wait_core.specs.Barriers.{attendance_of, IsHere, IdleAreHere}
 use Rattle.wait_core.specs.WordsAreMade.{WordsAreMade}
 use Rattle.wait_core.specs.Rule.{Flags, Sized, Rule}
 use Rattle.seat_roster.proofs.Totals.{total_map, total_le}
-use Rattle.seat_roster.proofs.Stretches.{unseen}
+use Rattle.seat_roster.proofs.Stretches.{unseen, each_set}
 use Rattle.seat_roster.proofs.Numbers.{most_one, own_inside}
 use Rattle.wait_core.proofs.Counts.{owns, bit_le}
 use Rattle.wait_core.proofs.Effects.{Effect, effect}
@@ -186,6 +188,8 @@ module _ {C : Type 0} (holds : List ℕ → List (PartyView C) → List ℕ → 
         made = subst (WordsAreMade z (set s.words i (becomes k n))) (sym (map-set doings_of s.views id w)) (made_step z s.words (map doings_of s.views) id (doings_of v) o k (list_of k n found (number_of v.own) v.place) (at_map doings_of s.views id v at) own (omega arith) r.made);
         lists = ?;
         left = subst LeftAreFree (sym (unseen party_of s.views id v w at refl)) r.left;
+        barriers = subst (λ (l : List (PartyView C)). Barriers l (phases z phase)) (sym (unseen party_of s.views id v w at refl)) r.barriers;
+        here = subst (IdleAreHere (phases z phase)) (sym (map-set attendance_of s.views id w)) (each_set (IsHere (phases z phase)) (map attendance_of s.views) id (attendance_of w) r.here (λ _. r.here id (attendance_of v) (at_map attendance_of s.views id v at) refl));
         client = subst (λ (x : List ℕ × List (PartyView C)). holds x.0 x.1 (phases z phase))
             (λ j. (sym (drop-set-lt (client_base z) s.words i (becomes k n) inside.1) j, sym (unseen party_of s.views id v w at refl) j)) r.client;
       }

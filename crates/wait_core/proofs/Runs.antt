@@ -25,7 +25,7 @@ module _ {C X : Type 0} (does : X → ClientOp) (may : PartyView C → X → Typ
   deed_holds : (s t : WaitState C) (id : ℕ) (v : WaitView C) (p : ℕ) (d : Deed X) → Rule holds z phase count s → get_elem? s.views id ≡ maybe.some v → v.own ≡ Some p → Deeds does may then first spent both z s id v d t → Rule holds z phase count t
   deed_holds s t id v p (machine k) r at own h = subst (Rule holds z phase count) (sym h.1) (machine_kept holds z phase count s r id v p at own k h.0)
   deed_holds s t id v p (client x) r at own h = subst (Rule holds z phase count) (sym h.2)
-      (client_kept holds z phase count s r id v at p own (op_at (does x)) (op_gives (does x)) (then (Rattle.wait_core.specs.Seating.party_of v) x) (inside _ x h.1) (λ words views phases kept is. step_keeps words views phases id _ x kept is h.1))
+      (client_kept holds z phase count s r id v at p own h.0 (op_at (does x)) (op_gives (does x)) (then (Rattle.wait_core.specs.Seating.party_of v) x) (inside _ x h.1) (λ words views phases kept is. step_keeps words views phases id _ x kept is h.1))
   deed_holds s t id v p draw r at own h = subst (Rule holds z phase count) (sym h.3) (draw_kept holds z phase count s r id v at h.0 h.1 h.2 _ refl)
   deed_holds s t id v p seat r at own h = subst (Rule holds z phase count) (sym h.1) (seat_kept holds z phase count s r id v at h.0.0 h.0.1 first draw_keeps)
   deed_holds s t id v p (join other) r at own h = subst (Rule holds z phase count) (sym h.1.6) (join_kept holds z phase count s r id v at p own other h.1.0 h.1.2 h.1.1 h.1.3 h.1.4 h.1.5 both spent (λ words views phases kept is. join_keeps words views phases id other _ _ kept is))

@@ -13,16 +13,18 @@ use Rattle.wait_core.specs.declared.view.WaitView.{WaitView}
 use Rattle.seat_roster.specs.Roster.{Numbers, Roster, count as numbers_in, numbered, one_if, drew, gave, took}
 use Rattle.wait_core.specs.Words.{client_base, phases}
 use Rattle.wait_core.specs.Machine.{WaitState}
-use Rattle.wait_core.specs.Parties.{with_client, newcomer, joined, left_over, IsStep, IsDraw, IsJoin}
+use Rattle.wait_core.specs.Parties.{with_client, newcomer, joined, left_over, Barriers, IsStep, IsDraw, IsJoin}
 use Rattle.wait_core.specs.Seating.{Standing, Doings, numbers_of, standing_of, doings_of, party_of, client_moved, with_drawn, stays, comes, took_in, spent_view}
 use Rattle.wait_core.specs.LeftAreFree.{IsFree, LeftAreFree}
 use Rattle.wait_core.specs.Fits.{PlacesFit}
+use Rattle.wait_core.specs.Barriers.{attendance_of, waits_at, IsHere, IdleAreHere}
 use Rattle.wait_core.specs.WordsAreMade.{WordsAreMade}
 use Rattle.wait_core.specs.Promises.{LastHoldsAlone}
 use Rattle.wait_core.specs.Rule.{SeatsAreCounted, Rule}
 use Rattle.seat_roster.proofs.Totals.{total_set, total_snoc, total_at, total_two}
 use Rattle.seat_roster.proofs.Stretches.{unseen, from_seen, each_set, each_more}
 use Rattle.seat_roster.proofs.Numbers.{roster_drew, roster_gave, roster_took, pending_inside}
+use Rattle.wait_core.proofs.BarriersKept.{barriers_set, barriers_more, barriers_joined}
 use Rattle.wait_core.proofs.WordsAreMade.{made_same, made_snoc, made_joined}
 use Rattle.wait_core.proofs.Untouched.{Agree, SameCounts, counts_are, counts_snoc, counts_idle, flags_same, may_same, latches_same, shutdown_same, places_snoc, places_idle, idle}
 
@@ -34,6 +36,10 @@ has_number own p is none = absurd (cc)
 abbrev WasLeft : {C : Type 0} → PartyView C → Type 0
 WasLeft u = u.proc ≡ None → IsFree u
 
+-- the seats that wait nowhere, once a view is changed that is attached as before, and that waits where it did
+here_set : {C : Type 0} (phases : List ℕ) (views : List (WaitView C)) (id : ℕ) (v w : WaitView C) → get_elem? views id ≡ maybe.some v → (IsHere phases (attendance_of v) → IsHere phases (attendance_of w)) → IdleAreHere phases (map attendance_of views) → IdleAreHere phases (map attendance_of (set views id w))
+here_set phases views id v w at same h = subst (IdleAreHere phases) (sym (map-set attendance_of views id w)) (each_set (IsHere phases) (map attendance_of views) id (attendance_of w) h (same (h id (attendance_of v) (at_map attendance_of views id v at))))
+
 module _ {C : Type 0} (holds : List ℕ → List (PartyView C) → List ℕ → Type 0) (z : Size) (phase count : ℕ) where
   -- there are at most as many views as numbers
   pub few_views : (s : WaitState C) → Rule holds z phase count s → length (map party_of s.views) ≤ 64
@@ -43,11 +49,15 @@ module _ {C : Type 0} (holds : List ℕ → List (PartyView C) → List ℕ → 
   pub few_drawn : (s : WaitState C) → Rule holds z phase count s → (id : ℕ) (v : WaitView C) → get_elem? s.views id ≡ maybe.some v → v.own ≡ Some 0 → length (map party_of s.views) ≤ v.drawn + 1
   few_drawn s r id v at own = let up = (r.roster.drawer id (numbers_of v) (at_map numbers_of s.views id v at) own).up_to in let a = r.counted in let x = length-map s.views numbers_of in let y = length-map s.views party_of in omega arith
 
+  -- what a client's step may suppose: its seat has a number, and is in no call
+  pub is_step : (s : WaitState C) → Rule holds z phase count s → (id : ℕ) (v : WaitView C) → get_elem? s.views id ≡ maybe.some v → (p : ℕ) → v.own ≡ Some p → v.place ≡ [] → IsStep (map party_of s.views) (phases z phase) id (party_of v)
+  is_step s r id v at p own idle = record { at = at_map party_of s.views id v at; own = (p, own); few = few_views s r; barriers = r.barriers; here = r.here id (attendance_of v) (at_map attendance_of s.views id v at) (ap waits_at idle) }
+
   -- a step of the client's f on its word k
-  pub client_kept : (s : WaitState C) → Rule holds z phase count s → (id : ℕ) (v : WaitView C) → get_elem? s.views id ≡ maybe.some v → (p : ℕ) → v.own ≡ Some p → (k : ℕ) (f : ℕ → ℕ) (then : ℕ → C) → k < count
+  pub client_kept : (s : WaitState C) → Rule holds z phase count s → (id : ℕ) (v : WaitView C) → get_elem? s.views id ≡ maybe.some v → (p : ℕ) → v.own ≡ Some p → v.place ≡ [] → (k : ℕ) (f : ℕ → ℕ) (then : ℕ → C) → k < count
       → ((words : List ℕ) (views : List (PartyView C)) (phases : List ℕ) → holds words views phases → IsStep views phases id (party_of v) → holds (set words k (f (get_or words k 0))) (set views id (with_client (party_of v) (then (get_or words k 0)))) phases)
       → let n = get_or s.words (client_base z + k) 0 in Rule holds z phase count (stepped s (client_base z + k) (f n) id [] (client_moved v (then n)) keeps)
-  client_kept s r id v at p own k f then below law =
+  client_kept s r id v at p own idle k f then below law =
       let b : ℕ = client_base z in let n : ℕ = get_or s.words (b + k) 0 in let w : WaitView C = client_moved v (then n) in
       let agree : Agree z s.words (set s.words (b + k) (f n)) = λ i some inside. get_or-set_other s.words (b + k) i (f n) 0 (λ e. omega arith) in
       let same = counts_are (map standing_of s.views) (map standing_of (set s.views id w)) (unseen standing_of s.views id v w at refl) in
@@ -66,10 +76,12 @@ module _ {C : Type 0} (holds : List ℕ → List (PartyView C) → List ℕ → 
         made = subst (WordsAreMade z (set s.words (b + k) (f n))) (sym (unseen doings_of s.views id v w at refl)) (made_same z s.words (set s.words (b + k) (f n)) (map doings_of s.views) agree r.made);
         lists = ?;
         left = subst LeftAreFree (sym (map-set party_of s.views id w)) (each_set WasLeft (map party_of s.views) id (party_of w) r.left (λ none. absurd (has_number v.own p own none)));
+        barriers = subst (λ (l : List (PartyView C)). Barriers l (phases z phase)) (sym (map-set party_of s.views id w)) (barriers_set (map party_of s.views) (phases z phase) id (party_of v) (party_of w) (at_map party_of s.views id v at) r.barriers refl refl);
+        here = here_set (phases z phase) s.views id v w at (λ waits. waits) r.here;
         client = subst (λ (x : List ℕ × List (PartyView C)). holds x.0 x.1 (phases z phase))
             (λ i. (sym (drop-set-add b s.words k (f n)) i, sym (map-set party_of s.views id w) i))
             (subst (λ (x : ℕ). holds (set (drop b s.words) k (f x)) (set (map party_of s.views) id (with_client (party_of v) (then x))) (phases z phase)) found
-            (law (drop b s.words) (map party_of s.views) (phases z phase) r.client (record { at = at_map party_of s.views id v at; own = (p, own); few = few_views s r })));
+            (law (drop b s.words) (map party_of s.views) (phases z phase) r.client (is_step s r id v at p own idle)));
       }
 
   -- the seat with the number 0 draws the next
@@ -95,6 +107,8 @@ module _ {C : Type 0} (holds : List ℕ → List (PartyView C) → List ℕ → 
         made = subst (WordsAreMade z (set s.words 0 x)) (sym (unseen doings_of s.views id v w at refl)) (made_same z s.words (set s.words 0 x) (map doings_of s.views) agree r.made);
         lists = ?;
         left = subst LeftAreFree (sym (unseen party_of s.views id v w at refl)) r.left;
+        barriers = subst (λ (l : List (PartyView C)). Barriers l (phases z phase)) (sym (unseen party_of s.views id v w at refl)) r.barriers;
+        here = here_set (phases z phase) s.views id v w at (λ waits. waits) r.here;
         client = subst (λ (y : List ℕ × List (PartyView C)). holds y.0 y.1 (phases z phase)) (λ j. (sym (drop-set-lt (client_base z) s.words 0 x (omega arith)) j, sym (unseen party_of s.views id v w at refl) j)) r.client;
       }
 
@@ -126,9 +140,11 @@ module _ {C : Type 0} (holds : List ℕ → List (PartyView C) → List ℕ → 
         made = subst (WordsAreMade z s.words) (sym (map-append doings_of vs (w ∷ []) ∙ ap (λ (l : List Doings). l ++ record { own = v.pending; steps = []; inherited = [] } ∷ []) (unseen doings_of s.views id v (stays v) at refl))) (made_snoc z s.words (map doings_of s.views) v.pending r.made);
         lists = ?;
         left = subst LeftAreFree parties (each_more WasLeft (map party_of s.views) (newcomer c (Some n)) r.left (λ none. record { attached = refl; elections = refl }));
+        barriers = subst (λ (l : List (PartyView C)). Barriers l (phases z phase)) parties (barriers_more (map party_of s.views) (phases z phase) c (Some n) r.barriers);
+        here = subst (IdleAreHere (phases z phase)) (sym (map-append attendance_of vs (w ∷ []))) (each_more (IsHere (phases z phase)) (map attendance_of vs) (attendance_of w) (here_set (phases z phase) s.views id v (stays v) at (λ waits. waits) r.here) (λ _ b ph e. absurd (cc)));
         client = subst (λ (l : List (PartyView C)). holds (drop (client_base z) s.words) l (phases z phase)) parties
             (law (drop (client_base z) s.words) (map party_of s.views) (phases z phase) n r.client
-            (record { few = omega arith; proc_below = let b = pending_inside z.procs (get_or s.words 0 0) ns r.roster id n (numbers_of v) at' drawn in omega arith }));
+            (record { barriers = r.barriers; few = omega arith; proc_below = let b = pending_inside z.procs (get_or s.words 0 0) ns r.roster id n (numbers_of v) at' drawn in omega arith }));
       }
 
   -- a seat takes in another, which is in no call
@@ -163,9 +179,11 @@ module _ {C : Type 0} (holds : List ℕ → List (PartyView C) → List ℕ → 
         lists = ?;
         left = subst LeftAreFree parties (each_set WasLeft (set (map party_of s.views) id (joined both (party_of v) (party_of w))) other (left_over c)
             (each_set WasLeft (map party_of s.views) id (joined both (party_of v) (party_of w)) r.left (λ none. absurd (has_number v.own p own none))) (λ none. record { attached = refl; elections = refl }));
+        barriers = subst (λ (l : List (PartyView C)). Barriers l (phases z phase)) parties (barriers_joined (map party_of s.views) (phases z phase) id other (party_of v) (party_of w) both c r.barriers (at_map party_of s.views id v at) (at_map party_of s.views other w there) apart);
+        here = here_set (phases z phase) vs other w y there' (λ _ _ b ph e. absurd (cc)) (here_set (phases z phase) s.views id v x at (λ waits. waits) r.here);
         client = subst (λ (l : List (PartyView C)). holds (drop (client_base z) s.words) l (phases z phase)) parties
             (law (drop (client_base z) s.words) (map party_of s.views) (phases z phase) r.client
-            (record { at = at_map party_of s.views id v at; own = (p, own); apart = apart; there = at_map party_of s.views other w there; free = free.1; few = few_views s r }));
+            (record { at = at_map party_of s.views id v at; own = (p, own); apart = apart; there = at_map party_of s.views other w there; free = free.1; few = few_views s r; barriers = r.barriers }));
       }
 
   -- once the seat with the number 0 has taken over every number that it drew, no other view has one

@@ -19,6 +19,7 @@ pub mod TargetsAreListed
 pub mod SignalIsKept
 pub mod ListsStand
 pub mod LeftAreFree
+pub mod Barriers
 pub mod Rule
 pub mod Wakes
 pub mod Runs

@@ -4,7 +4,8 @@ use Rattle.wait_core.specs.declared.view.PartyView.{PartyView}
 use Rattle.wait_core.specs.declared.view.Size.{Size}
 use Rattle.seat_roster.specs.Totals.{total}
 use Rattle.seat_roster.specs.Roster.{Numbers, Roster, one_if}
-use Rattle.wait_core.specs.Words.{client_base}
+use Rattle.wait_core.specs.Parties.{Barriers}
+use Rattle.wait_core.specs.Words.{client_base, phases}
 use Rattle.wait_core.specs.Machine.{WaitState}
 use Rattle.wait_core.specs.Seating.{numbers_of, standing_of, doings_of, party_of}
 use Rattle.wait_core.specs.Stances.{stance_of}
@@ -16,6 +17,7 @@ use Rattle.wait_core.specs.ClientHolds.{ClientHolds}
 use Rattle.wait_core.specs.WordsAreMade.{WordsAreMade}
 use Rattle.wait_core.specs.ListsStand.{ListsStand}
 use Rattle.wait_core.specs.LeftAreFree.{LeftAreFree}
+use Rattle.wait_core.specs.Barriers.{attendance_of, IdleAreHere}
 
 -- the numbers of backends, of words, and of slots: one for each condition and each barrier
 pub record Sized (z : Size) (count words homes : ℕ) : Type 0 where
@@ -44,4 +46,6 @@ module _ {C : Type 0} (holds : List ℕ → List (PartyView C) → List ℕ → 
     pub made : WordsAreMade z s.words (map doings_of s.views)
     pub lists : ListsStand z s.words s.homes (map stance_of s.views)
     pub left : LeftAreFree (map party_of s.views)
+    pub barriers : Barriers (map party_of s.views) (phases z phase)
+    pub here : IdleAreHere (phases z phase) (map attendance_of s.views)
     pub client : ClientHolds holds z phase s.words (map party_of s.views)

@@ -1,9 +1,9 @@
 //! The client of a table: its words, its steps and its law.
-ghost use Rattle.std.specs.Prelude.{◌≡◌, ℕ, ◌<◌, List, ◌∷◌, [], ◌++◌, Some, slice_set, slice_index};
+ghost use Rattle.std.specs.Prelude.{◌≡◌, ℕ, suc, ◌<◌, List, ◌∷◌, [], ◌++◌, Some, slice_set, slice_index};
 ghost use Rattle.wait_core.specs.declared.view.PartyView.{PartyView};
 ghost use Rattle.wait_core.specs.declared.party.ClientOp.{ClientOp};
 ghost use Rattle.wait_core.specs.Ops.{op_at, op_gives, op_writes};
-ghost use Rattle.wait_core.specs.Parties.{with_client, newcomer, joined, left_over, IsStep, IsDraw, IsJoin};
+ghost use Rattle.wait_core.specs.Parties.{now, with_client, newcomer, joined, left_over, elected, IsStep, IsDraw, IsJoin, IsEnter, IsNotice, IsElection, IsPass, IsLeave};
 
 /// One operation on one of the client's words.
 #[derive(Debug, Clone, Copy, PartialEq, Eq)]
@@ -105,6 +105,19 @@ pub trait Party: Sync {
     ghost draw_keeps: { (p : Self) (words : List ℕ) (views : List (PartyView Self.View)) (phases : List ℕ) (proc : ℕ) → holds p words views phases → IsDraw views phases proc → holds p words (views ++ newcomer (first p) (Some proc) ∷ []) phases };
 
     ghost join_keeps: { (p : Self) (words : List ℕ) (views : List (PartyView Self.View)) (phases : List ℕ) (id other : ℕ) (v w : PartyView Self.View) → holds p words views phases → IsJoin views phases id v other w → holds p words (slice_set (slice_set views id (joined both v w)) other (left_over spent)) phases };
+
+    // A seat that attaches keeps it, one that finds that its phase has passed, and one that gains an election.
+    ghost enter_keeps: { (p : Self) (words : List ℕ) (views : List (PartyView Self.View)) (phases : List ℕ) (id : ℕ) (v w : PartyView Self.View) (bar : ℕ) → holds p words views phases → IsEnter views phases id v w bar → enters p v bar → holds p words (slice_set views id w) phases };
+
+    ghost notice_keeps: { (p : Self) (words : List ℕ) (views : List (PartyView Self.View)) (phases : List ℕ) (id : ℕ) (v w : PartyView Self.View) (bar ph : ℕ) → holds p words views phases → IsNotice views phases id v w bar ph → quiet p v bar ph → holds p words (slice_set views id w) phases };
+
+    ghost elect_keeps: { (p : Self) (words : List ℕ) (views : List (PartyView Self.View)) (phases : List ℕ) (id : ℕ) (v : PartyView Self.View) (bar ph : ℕ) → holds p words views phases → IsElection views phases id v bar ph → holds p words (slice_set views id (elected v bar ph)) phases };
+
+    // A phase that passes, while each seat that is attached is quiet in it.
+    ghost pass_keeps: { (p : Self) (words : List ℕ) (views : List (PartyView Self.View)) (phases : List ℕ) (bar id : ℕ) (v : PartyView Self.View) → holds p words views phases → IsPass (quiet p) views phases bar id v → passes p bar (now phases bar) → holds p words views (slice_set phases bar (suc (now phases bar))) };
+
+    // A quiet seat that detaches.
+    ghost leave_keeps: { (p : Self) (words : List ℕ) (views : List (PartyView Self.View)) (phases : List ℕ) (id : ℕ) (v w : PartyView Self.View) (bar ph : ℕ) → holds p words views phases → IsLeave (stays p) views phases id v w bar ph → quiet p v bar ph → holds p words (slice_set views id w) phases };
 }
 
 /// A client with no word, whose law always holds.
@@ -152,6 +165,16 @@ impl Party for NoParty {
     ghost draw_keeps = { λ _ _ _ _ _ _ _. tt };
 
     ghost join_keeps = { λ _ _ _ _ _ _ _ _ _ _. tt };
+
+    ghost enter_keeps = { λ _ _ _ _ _ _ _ _ _ _ _. tt };
+
+    ghost notice_keeps = { λ _ _ _ _ _ _ _ _ _ _ _ _. tt };
+
+    ghost elect_keeps = { λ _ _ _ _ _ _ _ _ _ _. tt };
+
+    ghost pass_keeps = { λ _ _ _ _ _ _ _ _ _ _. tt };
+
+    ghost leave_keeps = { λ _ _ _ _ _ _ _ _ _ _ _ _. tt };
 
     fn words(&self) -> u32 {
         0

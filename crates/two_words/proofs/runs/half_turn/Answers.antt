@@ -1,8 +1,6 @@
 use Rattle.std.proofs.Common.{map, arith}
-use Rattle.atomic_table.proofs.Lists.{at_map}
 use Rattle.seat_roster.proofs.Totals.{total_at}
 use Rattle.wait_core.specs.Seating.{party_of}
-use Rattle.wait_core.proofs.SeatsKept.{few_views}
 use Rattle.two_words.specs.Balance.{left_of}
 use Rattle.two_words.proofs.runs.half_turn.Goals as goal
 
@@ -12,8 +10,8 @@ returns-clause-few c =
     let views = stood.state.views in
     let balanced = stood.rule.client in
     let v = c.args.seat.now.view in
-    let few = few_views _ _ _ _ stood.state stood.rule in
-    let mine = total_at left_of (map party_of views) _ (party_of v) (at_map party_of views _ v stood.here) in
+    let few = stood.step.few in
+    let mine = total_at left_of (map party_of views) _ (party_of v) stood.step.at in
     let some = c.requires.turn in
     let first = balanced.first in
     let second = balanced.second in

@@ -1,0 +1,264 @@
+-- The steps of the join: the word of each, what it does to it, when a seat may make it, and what the seat knows after it.
+use Rattle.std.specs.Prelude.{◌≡◌, ◌⊎◌, ℕ, zero, suc, ◌+◌, ◌-◌, ◌*◌, ◌^◌, ◌<◌, ◌≤◌, ◌==◌, ◌&&◌, ◌||◌, cond, nat_le, true, List, [], ◌∷◌, ◌++◌, length, min, Option, Some, None, ⊤}
+use Rattle.std.specs.Int.{IsPowerOfTwo}
+use Rattle.wait_core.specs.declared.party.ClientOp.{ClientOp}
+use Rattle.wait_core.specs.declared.party.ClientOp.TheVariants as op
+use Rattle.wait_core.specs.Parties.{phase_of, Elected}
+use Rattle.row_model.specs.declared.Side.{Side}
+use Rattle.row_model.specs.declared.Side.TheVariants.{Inner, Outer}
+use Rattle.seat_roster.specs.Roster.{times}
+use Rattle.join_law.specs.declared.step.Word.{Word}
+use Rattle.join_law.specs.declared.step.Word.TheVariants as word
+use Rattle.join_law.specs.declared.step.Source.{Source}
+use Rattle.join_law.specs.declared.step.Source.TheVariants as from
+use Rattle.join_law.specs.declared.step.Look.{Look}
+use Rattle.join_law.specs.declared.step.Look.TheVariants.{Plain, Cursor, TakeHead, TakeNext, WalkHead, WalkNext, Aside, GiveUp, Done, Late}
+use Rattle.join_law.specs.declared.step.Look.TheVariants as look
+use Rattle.join_law.specs.declared.step.HashStep.{HashStep}
+use Rattle.join_law.specs.declared.step.HashStep.TheVariants.{Load, Claim, StoreHash, StoreNext, Push, Take, AddBatchSize, ClearBatchSize, StoreSizes, Draw, AddResults}
+use Rattle.join_law.specs.declared.view.HashView.{HashView}
+use Rattle.join_law.specs.declared.view.Taking.{Taking}
+use Rattle.join_law.specs.declared.view.Walk.{Walk}
+use Rattle.join_law.specs.declared.view.Swept.{Swept}
+use Rattle.join_law.specs.Layout.{Join, SizesOf, sizes_of, place, Inside, store_no, outer_no}
+use Rattle.join_law.specs.Routes.{batch_of, chain_at, outer_at, hashed_at, before_growth, old_head, old_heads}
+use Rattle.join_law.specs.Views.{V, stretch, partners, dropped}
+use Rattle.join_law.specs.Phases.{growth_phase, growth_place, reads_sizes, With, WithSizes, HASH_INNER, HASH_OUTER, RUN, FREE, LOAD, PROBE, SCAN, batch_bar}
+
+-- the head that a source names
+abbrev pub source_head : Join → Source → ℕ
+source_head j (from.Inner half batch) = store_no j half batch
+source_head j (from.Outer batch) = outer_no j batch
+source_head j (from.Old bar turn head) = head
+
+abbrev pub cursor : Side → Word
+cursor Inner = word.InnerCursor
+cursor Outer = word.OuterCursor
+
+abbrev pub looked_at : Join → Look → Word
+looked_at j (Plain w) = w
+looked_at j look.Sizes = word.Sizes
+looked_at j (Cursor side) = cursor side
+looked_at j (TakeHead source) = word.Head (source_head j source)
+looked_at j (TakeNext row) = word.Next row
+looked_at j (WalkHead row head) = word.Head head
+looked_at j (WalkNext inner) = word.Next inner
+looked_at j (Aside row) = word.Next row
+looked_at j (GiveUp row) = word.Next row
+looked_at j (Done batch) = word.Head (outer_no j batch)
+looked_at j Late = word.Sizes
+
+-- the word of a step
+abbrev pub word_of : Join → HashStep → Word
+word_of j (Load l) = looked_at j l
+word_of j (Claim side) = cursor side
+word_of j (StoreHash row hash) = word.Hash row
+word_of j (StoreNext row next) = word.Next row
+word_of j (Push row head found) = word.Head head
+word_of j (Take row head next) = word.Head head
+word_of j (AddBatchSize k by) = word.BatchSize k
+word_of j (ClearBatchSize k) = word.BatchSize k
+word_of j (StoreSizes bar w) = word.Sizes
+word_of j Draw = word.Distributor
+word_of j (AddResults row pairs) = word.Results
+
+-- where it stands, as far as 32 bits go
+abbrev pub spot : Join → Word → ℕ
+spot j w = min (place j w) 4294967295
+
+abbrev pub step_op : Join → HashStep → ClientOp
+step_op j (Load l) = op.Load (spot j (looked_at j l))
+step_op j (Claim side) = op.Add (spot j (cursor side)) 64
+step_op j (StoreHash row hash) = op.Store (spot j (word.Hash row)) hash
+step_op j (StoreNext row next) = op.Store (spot j (word.Next row)) next
+step_op j (Push row head found) = op.Change (spot j (word.Head head)) found (suc row)
+step_op j (Take row head next) = op.Change (spot j (word.Head head)) (suc row) next
+step_op j (AddBatchSize k by) = op.Add (spot j (word.BatchSize k)) by
+step_op j (ClearBatchSize k) = op.Store (spot j (word.BatchSize k)) 0
+step_op j (StoreSizes bar w) = op.Store (spot j word.Sizes) w
+step_op j Draw = op.Add (spot j word.Distributor) 1
+step_op j (AddResults row pairs) = op.Add (spot j word.Results) pairs
+
+abbrev pub InHand : V → ℕ → Type 0
+InHand v r = 1 ≤ times r v.client.hand
+
+abbrev pub At : V → ℕ → ℕ → Type 0
+At v bar ph = phase_of v.attached bar ≡ Some ph
+
+-- where a seat may put an inner row of this hash, and an outer row
+abbrev pub InnerPush : Join → V → SizesOf → ℕ → ℕ → Type 0
+InnerPush j v z x h = ((At v 0 HASH_INNER) × (growth_place j v ≡ true) × (h ≡ hashed_at j z x)) ⊎ ((At v (batch_bar (batch_of z x)) LOAD) × (h ≡ chain_at j z x))
+
+abbrev pub OuterPush : Join → V → SizesOf → ℕ → ℕ → Type 0
+OuterPush j v z x h = (At v 0 HASH_OUTER) × (h ≡ outer_at j z x)
+
+abbrev pub MayPush : Join → V → ℕ → ℕ → SizesOf → ℕ → Type 0
+MayPush j v r h z x = (r < j.inner → InnerPush j v z x h) × (j.inner ≤ r → OuterPush j v z x h)
+
+-- how many heads of the old half were seen at their end in this phase
+abbrev pub swept_at : Option Swept → ℕ → ℕ → ℕ
+swept_at None bar ph = 0
+swept_at (Some s) bar ph = cond ((s.bar == bar) && (s.phase == ph)) s.heads 0
+
+-- where a seat may take rows from, in a phase that it names
+abbrev pub MayTake : Join → V → Source → ℕ → Type 0
+MayTake j v (from.Inner half batch) ph = (At v (batch_bar batch) LOAD) × (batch < 64) × (ph ≡ RUN) × WithSizes v (λ z. half ≡ z.half)
+MayTake j v (from.Outer batch) ph = (At v (batch_bar batch) PROBE) × (batch < 64) × (ph ≡ RUN)
+MayTake j v (from.Old bar turn head) ph = (At v bar ph) × ((bar ≡ 1) ⊎ (bar ≡ 2)) × (growth_phase bar ph ≡ 2) × (growth_place j v ≡ true) × (At v 0 HASH_INNER)
+    × WithSizes v (λ z. (turn < old_heads (before_growth j bar z)) × (head ≡ old_head j (before_growth j bar z) turn) × (turn ≤ swept_at v.client.swept bar ph))
+
+abbrev pub or_zero : Option ℕ → ℕ
+or_zero None = 0
+or_zero (Some n) = n
+
+-- the phase in which a source is taken from
+abbrev pub source_phase : V → Source → ℕ
+source_phase v (from.Inner half batch) = RUN
+source_phase v (from.Outer batch) = RUN
+source_phase v (from.Old bar turn head) = or_zero (phase_of v.attached bar)
+
+-- a take under way that has its next word
+abbrev pub Takes : Join → V → Option Taking → ℕ → ℕ → ℕ → Type 0
+Takes j v None row head next = ⊥
+Takes j v (Some t) row head next = (t.row ≡ row) × (t.head ≡ head) × (t.next ≡ Some next) × MayTake j v t.source t.phase
+
+abbrev pub Taking_of : Option Taking → ℕ → Type 0
+Taking_of None row = ⊥
+Taking_of (Some t) row = t.row ≡ row
+
+abbrev pub Stands_at : Option Walk → ℕ → Type 0
+Stands_at None inner = ⊥
+Stands_at (Some w) inner = w.stood ≡ suc inner
+
+-- an outer row in hand at PROBE of its batch
+abbrev pub Probing : Join → V → ℕ → (SizesOf → ℕ → Type 0) → Type 0
+Probing j v r P = (InHand v r) × (j.inner ≤ r) × With (j.hash r) (λ x. WithSizes v (λ z. (At v (batch_bar (batch_of z x)) PROBE) × P z x))
+
+abbrev pub Walked : Join → Option Walk → ℕ → ℕ → Type 0
+Walked j None row pairs = ⊥
+Walked j (Some w) row pairs = (w.row ≡ row) × (w.stood ≡ 0) × (pairs ≡ length (partners j row w.passed))
+
+abbrev pub MayLook : Join → V → Look → Type 0
+MayLook j v (Plain w) = ⊤
+MayLook j v look.Sizes = ⊤
+MayLook j v (Cursor side) = ⊤
+MayLook j v (TakeHead source) = MayTake j v source (source_phase v source)
+MayLook j v (TakeNext row) = Taking_of v.client.taking row
+MayLook j v (WalkHead row head) = Probing j v row (λ z x. head ≡ chain_at j z x)
+MayLook j v (WalkNext inner) = Stands_at v.client.walk inner
+MayLook j v (Aside row) = (InHand v row) × (j.hash row ≡ None)
+MayLook j v (GiveUp row) = Probing j v row (λ z x. ⊤)
+MayLook j v (Done batch) = (batch < 64) × With (phase_of v.attached (batch_bar batch)) (λ ph. SCAN ≤ ph)
+MayLook j v Late = At v 0 FREE
+
+abbrev pub claims_of : V → Side → ℕ
+claims_of v Inner = v.client.inner_claims
+claims_of v Outer = v.client.outer_claims
+
+abbrev pub claim_phase : Side → ℕ
+claim_phase Inner = HASH_INNER
+claim_phase Outer = HASH_OUTER
+
+-- the sizes that a growth at this barrier may bring: powers of two with room, from which those before it can be told
+abbrev pub Grown : Join → ℕ → SizesOf → SizesOf → Type 0
+Grown j bar z w = (before_growth j bar w ≡ z) × (1 ≤ w.buckets) × (1 ≤ w.batches) × (w.batches ≤ 64) × (w.half ≤ 1) × (w.buckets * w.batches ≤ j.chains) × (w.buckets ≤ 262144) × (IsPowerOfTwo w.buckets) × (IsPowerOfTwo w.batches)
+
+-- the other growth barrier
+abbrev pub other_growth : ℕ → ℕ
+other_growth bar = 3 - bar
+
+abbrev pub MayStoreSizes : Join → V → ℕ → ℕ → Type 0
+MayStoreSizes j v bar w = ((bar ≡ 1) ⊎ (bar ≡ 2)) × With (phase_of v.attached bar) (λ ph. (growth_phase bar ph ≡ 1) × (Elected v.elections bar ph) × (Elected v.client.stored bar ph → ⊥))
+    × With (phase_of v.attached (other_growth bar)) (λ ph. growth_phase (other_growth bar) ph ≡ 0) × WithSizes v (λ z. Grown j bar z (sizes_of w))
+
+abbrev pub Allowed : Join → V → HashStep → Type 0
+Allowed j v (Load l) = MayLook j v l
+Allowed j v (Claim side) = (At v 0 (claim_phase side)) × (1 ≤ claims_of v side)
+Allowed j v (StoreHash row hash) = (InHand v row) × With (j.hash row) (λ x. hash ≡ x)
+Allowed j v (StoreNext row next) = InHand v row
+Allowed j v (Push row head found) = (InHand v row) × (v.client.hashed ≡ Some row) × (v.client.linked ≡ Some (row, found)) × With (j.hash row) (λ x. WithSizes v (λ z. MayPush j v row head z x))
+Allowed j v (Take row head next) = Takes j v v.client.taking row head next
+Allowed j v (AddBatchSize k by) = k < 128
+Allowed j v (ClearBatchSize k) = k < 128
+Allowed j v (StoreSizes bar w) = MayStoreSizes j v bar w
+Allowed j v Draw = ⊤
+Allowed j v (AddResults row pairs) = (Probing j v row (λ z x. ⊤)) × Walked j v.client.walk row pairs
+
+-- the word is there, and the step is allowed
+abbrev pub May : Join → V → HashStep → Type 0
+May j v step = (Inside j (word_of j step)) × Allowed j v step
+
+abbrev pub swept_more : Option ℕ → Option Swept → ℕ → ℕ → Option Swept
+swept_more None s bar turn = s
+swept_more (Some ph) s bar turn = cond (turn == swept_at s bar ph) (Some (record { bar = bar; phase = ph; heads = suc turn })) s
+
+abbrev pub stored_more : Option ℕ → List (ℕ × ℕ) → ℕ → List (ℕ × ℕ)
+stored_more None list bar = list
+stored_more (Some ph) list bar = (bar, ph) ∷ list
+
+-- what a seat knows where it found the end of a source, and where it found a row
+abbrev pub saw_end : V → Source → HashView
+saw_end v (from.Inner half batch) = record (v.client) { emptied = batch ∷ v.client.emptied; taking = None }
+saw_end v (from.Outer batch) = record (v.client) { drained = batch ∷ v.client.drained; taking = None }
+saw_end v (from.Old bar turn head) = record (v.client) { taking = None; swept = swept_more (phase_of v.attached bar) v.client.swept bar turn }
+
+abbrev pub found_head : Join → V → Source → ℕ → HashView
+found_head j v source zero = saw_end v source
+found_head j v source (suc row) = record (v.client) { taking = Some (record { source = source; head = source_head j source; phase = source_phase v source; row = row; next = None }) }
+
+abbrev pub next_read : Option Taking → ℕ → Option Taking
+next_read None n = None
+next_read (Some t) n = Some (record t { next = Some n })
+
+abbrev pub walked_on : Option Walk → ℕ → ℕ → Option Walk
+walked_on None inner n = None
+walked_on (Some w) inner n = Some (record w { passed = w.passed ++ inner ∷ []; stood = n })
+
+abbrev pub passed_of : Option Walk → List ℕ
+passed_of None = []
+passed_of (Some w) = w.passed
+
+abbrev pub looked : Join → V → Look → ℕ → HashView
+looked j v (Plain w) n = v.client
+looked j v look.Sizes n = record (v.client) { known = reads_sizes j v n }
+looked j v (Cursor Inner) n = record (v.client) { inner_ended = v.client.inner_ended || nat_le j.inner n }
+looked j v (Cursor Outer) n = record (v.client) { outer_ended = v.client.outer_ended || nat_le j.outer n }
+looked j v (TakeHead source) n = found_head j v source n
+looked j v (TakeNext row) n = record (v.client) { taking = next_read v.client.taking n }
+looked j v (WalkHead row head) n = record (v.client) { walk = Some (record { row = row; passed = []; stood = n }) }
+looked j v (WalkNext inner) n = record (v.client) { walk = walked_on v.client.walk inner n }
+looked j v (Aside row) n = record (dropped v.client row) { aside = row ∷ v.client.aside }
+looked j v (GiveUp row) n = record (dropped v.client row) { given = row ∷ v.client.given }
+looked j v (Done batch) n = record (v.client) { done = batch ∷ v.client.done }
+looked j v Late n = record (v.client) { late = true }
+
+-- so many rows from the first one come to hand. A chunk of inner rows is counted
+abbrev pub claimed_rows : HashView → ℕ → ℕ → ℕ → HashView
+claimed_rows v first count chunk = record v { hand = v.hand ++ stretch first count; chunks = v.chunks + chunk; claimed = v.claimed + count }
+
+-- what a claim gives that found the cursor at n
+abbrev pub claimed_inner : Join → V → ℕ → HashView
+claimed_inner j v n = cond (nat_le j.inner n) (record (v.client) { inner_ended = true; inner_claims = v.client.inner_claims - 1 }) (claimed_rows v.client n (min 64 (j.inner - n)) 1)
+
+abbrev pub claimed_outer : Join → V → ℕ → HashView
+claimed_outer j v n = cond (nat_le j.outer n) (record (v.client) { outer_ended = true; outer_claims = v.client.outer_claims - 1 }) (claimed_rows v.client (j.inner + n) (min 64 (j.outer - n)) 0)
+
+abbrev pub pushed : HashView → ℕ → HashView
+pushed v row = dropped v row
+
+abbrev pub took : HashView → ℕ → HashView
+took v row = record v { hand = row ∷ v.hand; hashed = Some row; taking = None }
+
+abbrev pub after : Join → V → HashStep → ℕ → HashView
+after j v (Load l) n = looked j v l n
+after j v (Claim Inner) n = claimed_inner j v n
+after j v (Claim Outer) n = claimed_outer j v n
+after j v (StoreHash row hash) n = record (v.client) { hashed = Some row }
+after j v (StoreNext row next) n = record (v.client) { linked = Some (row, next) }
+after j v (Push row head found) n = cond (n == found) (pushed v.client row) (v.client)
+after j v (Take row head next) n = cond (n == suc row) (took v.client row) (record (v.client) { taking = None })
+after j v (AddBatchSize k by) n = v.client
+after j v (ClearBatchSize k) n = v.client
+after j v (StoreSizes bar w) n = record (v.client) { known = None; stored = stored_more (phase_of v.attached bar) v.client.stored bar }
+after j v Draw n = v.client
+after j v (AddResults row pairs) n = record (dropped v.client row) { probed = record { row = row; pairs = partners j row (passed_of v.client.walk) } ∷ v.client.probed }

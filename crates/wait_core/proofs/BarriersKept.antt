@@ -1,0 +1,87 @@
+-- What a client may suppose of barriers, once a view is changed, a seat drawn or one joined. No phase passes here, and nobody attaches or is elected.
+use Rattle.std.proofs.Common.{◌≡◌, ◌≢◌, ◌⊎◌, ℕ, zero, suc, ◌==◌, cond, List, [], ◌∷◌, ◌++◌, set, Option, None, Some, refl, sym, ap, ◌∙◌, subst, ⊎_elim, inl, inr, arith}
+use Rattle.std.proofs.lemmas.Bool.Decides.{nat_tests}
+use mathlib.Core.Option as maybe
+use lib.ListN.{get_elem?}
+use Rattle.atomic_table.proofs.Lists.{at_set, at_snoc}
+use Rattle.wait_core.specs.declared.view.PartyView.{PartyView}
+use Rattle.wait_core.specs.Parties.{phase_of, Elected, newcomer, joined, left_over, Barriers}
+
+-- an election among two lists is of one of them
+elected_either : (xs ys : List (ℕ × ℕ)) (b ph k : ℕ) → get_elem? (xs ++ ys) k ≡ maybe.some (b, ph) → Elected xs b ph ⊎ Elected ys b ph
+elected_either [] ys b ph k e = inr (k, e)
+elected_either (x ∷ xs) ys b ph zero e = inl (0, e)
+elected_either (x ∷ xs) ys b ph (suc k) e = ⊎_elim (λ (t : Elected xs b ph). inl (suc t.0, t.1)) inr (elected_either xs ys b ph k e)
+
+nobody_elected : (b ph : ℕ) → Elected [] b ph → ⊥
+nobody_elected b ph e = absurd (maybe.some-ne-none (b, ph) (sym e.1))
+
+module _ {C : Type 0} where
+  -- some view knows the phase of the barrier
+  abbrev KnownBy : List (PartyView C) → ℕ → ℕ → Type 0
+  KnownBy views b ph = (k : ℕ) × (x : PartyView C) × (get_elem? views k ≡ maybe.some x) × (phase_of x.attached b ≡ Some ph)
+
+  -- some view whose elections went to the seat i has the election
+  abbrev WonBy : (ℕ → ℕ) → List (PartyView C) → ℕ → ℕ → ℕ → Type 0
+  WonBy to views i b ph = (k : ℕ) × (x : PartyView C) × (get_elem? views k ≡ maybe.some x) × (Elected x.elections b ph) × (i ≡ to k)
+
+  -- whatever is attached or elected after was so before, and `to` says to whom elections went
+  record Traced (to : ℕ → ℕ) (views after : List (PartyView C)) : Type 0 where
+    attached : (i : ℕ) (u : PartyView C) → get_elem? after i ≡ maybe.some u → (b ph : ℕ) → phase_of u.attached b ≡ Some ph → KnownBy views b ph
+    elected : (i : ℕ) (u : PartyView C) → get_elem? after i ≡ maybe.some u → (b ph : ℕ) → Elected u.elections b ph → WonBy to views i b ph
+
+  traced : (to : ℕ → ℕ) (views after : List (PartyView C)) (phases : List ℕ) → Barriers views phases → Traced to views after → Barriers after phases
+  traced to views after phases h t = record {
+    near = λ i u e b ph a. let x = t.attached i u e b ph a in h.near x.0 x.1 x.2 b ph x.3;
+    inside = λ i u e b ph a. let x = t.attached i u e b ph a in h.inside x.0 x.1 x.2 b ph x.3;
+    past = λ i u e b ph a. let x = t.elected i u e b ph a in h.past x.0 x.1 x.2 b ph x.3;
+    one = λ i k u w e f b ph a c. let x = t.elected i u e b ph a in let y = t.elected k w f b ph c in x.4 ∙ (ap to (h.one x.0 y.0 x.1 y.1 x.2 y.2 b ph x.3 y.3) ∙ sym y.4);
+  }
+
+  -- a view is changed, and is attached and elected as before
+  pub barriers_set : (views : List (PartyView C)) (phases : List ℕ) (id : ℕ) (v w : PartyView C) → get_elem? views id ≡ maybe.some v → Barriers views phases → w.attached ≡ v.attached → w.elections ≡ v.elections → Barriers (set views id w) phases
+  barriers_set views phases id v w at h same won = traced (λ k. k) views (set views id w) phases h record {
+    attached = λ i u e b ph a. ⊎_elim (λ (t : (i ≡ id) × (w ≡ u)). (id, v, at, ap (λ (l : List (ℕ × ℕ)). phase_of l b) (sym same ∙ ap (λ (x : PartyView C). x.attached) t.1) ∙ a)) (λ (t : (i ≢ id) × (get_elem? views i ≡ maybe.some u)). (i, u, t.1, a)) (at_set views id i w u e);
+    elected = λ i u e b ph a. ⊎_elim (λ (t : (i ≡ id) × (w ≡ u)). (id, v, at, subst (λ (l : List (ℕ × ℕ)). Elected l b ph) (sym (sym won ∙ ap (λ (x : PartyView C). x.elections) t.1)) a, t.0)) (λ (t : (i ≢ id) × (get_elem? views i ≡ maybe.some u)). (i, u, t.1, a, refl)) (at_set views id i w u e);
+  }
+
+  -- a seat is drawn
+  pub barriers_more : (views : List (PartyView C)) (phases : List ℕ) (c : C) (own : Option ℕ) → Barriers views phases → Barriers (views ++ newcomer c own ∷ []) phases
+  barriers_more views phases c own h = traced (λ k. k) views (views ++ newcomer c own ∷ []) phases h record {
+    attached = λ i u e b ph a. ⊎_elim (λ (t : get_elem? views i ≡ maybe.some u). (i, u, t, a)) (λ (is : newcomer c own ≡ u). absurd (unattached u is b ph a)) (at_snoc views (newcomer c own) u i e);
+    elected = λ i u e b ph a. ⊎_elim (λ (t : get_elem? views i ≡ maybe.some u). (i, u, t, a, refl)) (λ (is : newcomer c own ≡ u). absurd (nobody_elected b ph (subst (λ (x : PartyView C). Elected x.elections b ph) (sym is) a))) (at_snoc views (newcomer c own) u i e);
+  }
+    where
+      unattached : (u : PartyView C) → newcomer c own ≡ u → (b ph : ℕ) → phase_of u.attached b ≡ Some ph → ⊥
+      unattached u is b ph a = let none : None ≡ Some ph = ap (λ (x : PartyView C). phase_of x.attached b) is ∙ a in absurd (cc)
+
+  -- a seat takes in another, which is attached to nothing, with its elections
+  pub barriers_joined : (views : List (PartyView C)) (phases : List ℕ) (id other : ℕ) (v w : PartyView C) (both : C → C → C) (c : C) → Barriers views phases → get_elem? views id ≡ maybe.some v → get_elem? views other ≡ maybe.some w → (other ≡ id → ⊥)
+      → Barriers (set (set views id (joined both v w)) other (left_over c)) phases
+  barriers_joined views phases id other v w both c h at there apart = traced to views (set (set views id x) other y) phases h record {
+    attached = λ i u e b ph a. ⊎_elim (λ (t : (i ≡ other) × (y ≡ u)). absurd (unattached u t.1 b ph a)) (λ (t : (i ≢ other) × (get_elem? (set views id x) i ≡ maybe.some u)).
+        ⊎_elim (λ (s : (i ≡ id) × (x ≡ u)). (id, v, at, ap (λ (q : PartyView C). phase_of q.attached b) s.1 ∙ a)) (λ (s : (i ≢ id) × (get_elem? views i ≡ maybe.some u)). (i, u, s.1, a)) (at_set views id i x u t.1)) (at_set (set views id x) other i y u e);
+    elected = λ i u e b ph a. ⊎_elim (λ (t : (i ≡ other) × (y ≡ u)). absurd (nobody_elected b ph (subst (λ (q : PartyView C). Elected q.elections b ph) (sym t.1) a))) (λ (t : (i ≢ other) × (get_elem? (set views id x) i ≡ maybe.some u)).
+        ⊎_elim (λ (s : (i ≡ id) × (x ≡ u)). from_both i s.0 b ph (subst (λ (q : PartyView C). Elected q.elections b ph) (sym s.1) a)) (λ (s : (i ≢ id) × (get_elem? views i ≡ maybe.some u)). (i, u, s.1, a, sym (stays i t.0))) (at_set views id i x u t.1)) (at_set (set views id x) other i y u e);
+  }
+    where
+      x : PartyView C
+      x = joined both v w
+
+      y : PartyView C
+      y = left_over c
+
+      to : ℕ → ℕ
+      to k = cond (k == other) id k
+
+      stays : (k : ℕ) → (k ≡ other → ⊥) → to k ≡ k
+      stays k ne = grind (arith, nat_tests)
+
+      goes : to other ≡ id
+      goes = grind (arith, nat_tests)
+
+      unattached : (u : PartyView C) → left_over c ≡ u → (b ph : ℕ) → phase_of u.attached b ≡ Some ph → ⊥
+      unattached u is b ph a = let none : None ≡ Some ph = ap (λ (q : PartyView C). phase_of q.attached b) is ∙ a in absurd (cc)
+
+      from_both : (i : ℕ) → i ≡ id → (b ph : ℕ) → Elected (v.elections ++ w.elections) b ph → WonBy to views i b ph
+      from_both i is b ph a = ⊎_elim (λ (t : Elected v.elections b ph). (id, v, at, t, is ∙ sym (stays id (λ e. apart (sym e))))) (λ (t : Elected w.elections b ph). (other, w, there, t, is ∙ sym goes)) (elected_either v.elections w.elections b ph a.0 a.1)
