@@ -15,3 +15,10 @@ pub mod Asks
 pub mod SeatLemmas
 pub mod Runs
 pub mod Sleepers
+pub mod Lists
+pub mod Turns
+pub mod Owning
+pub mod SpinInOneHand
+pub mod TargetsAreListed
+pub mod SignalIsKept
+pub mod Turning

@@ -50,9 +50,13 @@ sentinel_at (Spinning j ∷ p) = sentinel_of j
 sentinel_at (Holding j list found ∷ p) = sentinel_of j
 sentinel_at (f ∷ p) = sentinel_at p
 
+-- the target, or where there is none this
+abbrev pub target_or : Option ℕ → Option ℕ → Option ℕ
+target_or (Some c) o = Some c
+target_or None o = o
+
 abbrev pub belongs_at : Option ℕ → Place → Option ℕ
-belongs_at (Some c) p = Some c
-belongs_at None p = sentinel_at p
+belongs_at target p = target_or target (sentinel_at p)
 
 -- it reset its latch in a sleep, and hasn't looked at the list since
 abbrev pub is_resleep : Job → Bool
