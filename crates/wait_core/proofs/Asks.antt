@@ -18,10 +18,11 @@ use Rattle.wait_core.specs.Machine.{WaitState, number_of, word_of, becomes, home
 use Rattle.wait_core.specs.Parties.{with_client, newcomer, joined, left_over, IsStep, IsDraw, IsJoin}
 use Rattle.wait_core.specs.Seating.{numbers_of, standing_of, party_of, client_moved, with_drawn, stays, comes, took_in, spent_view}
 use Rattle.wait_core.specs.Rule.{Rule}
-use Rattle.wait_core.specs.Told.{does, does_client, looks, draws, Turns, Cuts, Glues}
+use Rattle.wait_core.specs.Told.{Tells, does, does_client, looks, draws, Turns, Cuts, Glues}
 use Rattle.wait_core.specs.Seats.{TableView, table_view, size_of}
 use Rattle.wait_core.specs.Sending.{HasSlot}
 use Rattle.wait_core.proofs.Hands.{hand_follows}
+use Rattle.wait_core.proofs.InHand.{act_valid, step_tells}
 use Rattle.wait_core.proofs.RuleKept.{step_kept, word_inside, own_below}
 use Rattle.wait_core.proofs.SeatsKept.{client_kept, draw_kept, seat_kept, join_kept}
 
@@ -61,12 +62,17 @@ module _ {C : Type 0} (holds : List ℕ → List (PartyView C) → List ℕ → 
       let kept = step_kept holds z phase count s r id me.0 o there own k mine in (
         next_with z k me.0 n found,
         act_of z k n found,
-        ?,
+        act_valid z (get_or s.words 0 0) s.words s.homes s.views r.roster.few r.roster r.lists o (Some o) me.0.target me.0.place k mine me.1,
         subst (λ (x : ℕ). Rule holds z phase count (stepped s (word_of z o k) x id me.1 (next_with z k me.0 n found) (act_of z k n found))) (sym (agrees n))
             (subst (λ (h : List (maybe.Option Kept)). Rule holds z phase count record { words = set s.words (word_of z o k) (becomes k n); homes = h; views = set s.views id (next_with z k me.0 n found) })
             (homes_same z k o n found me.0 (ap number_of own) s.homes me.1 slot) kept),
-        (found, refl, refl, r.flags (word_of z o k) inside.0 inside.1, ?, hand_follows z me.0.target k me.0.own (number_of me.0.own) n found me.0.place ok (r.places.fits id (standing_of me.0) (at_map standing_of s.views id me.0 there))),
+        (found, refl, refl, r.flags (word_of z o k) inside.0 inside.1, tells s r there mine n found refl refl, hand_follows z me.0.target k me.0.own (number_of me.0.own) n found me.0.place ok (r.places.fits id (standing_of me.0) (at_map standing_of s.views id me.0 there))),
       ))
+    where
+      tells : (s : WaitState C) → Rule holds z phase count s → get_elem? s.views id ≡ maybe.some me.0 → Permits z k (Some o) me.0.target me.0.place → (n : ℕ) (found : Kept) → n ≡ get_or s.words (word_of z o k) 0 → found ≡ home_in s.homes (slot_number z k)
+          → Tells z k (number_of me.0.own) n found.list.items
+      tells s r there mine n found n_is found_is = subst (λ (x : ℕ × ℕ × Kept). Tells z k x.0 x.1 x.2.list.items) (λ i. (sym (ap number_of own) i, sym n_is i, sym found_is i))
+          (step_tells z (get_or s.words 0 0) s.words s.homes s.views r.roster.few r.roster r.lists o (Some o) me.0.target me.0.place k mine (own_below holds z phase count s r id me.0 o there own))
 
   -- a step of the client
   pub client_turns : (slots id : ℕ) (me : Me Kept (WaitView C)) (word : ℕ) (op : ClientOp) (then : ℕ → C) (told : ℕ → Type 0) → word ≡ client_base z + op_at op → op_at op < count → (p : ℕ) → me.0.own ≡ Some p → me.0.place ≡ []

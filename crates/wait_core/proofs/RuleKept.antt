@@ -35,6 +35,7 @@ use Rattle.wait_core.proofs.Counts.{owns, bit_le}
 use Rattle.wait_core.proofs.Effects.{Effect, effect}
 use Rattle.wait_core.proofs.Untouched.{idle}
 use Rattle.wait_core.proofs.Fitting.{fits_after, target_kept}
+use Rattle.wait_core.proofs.ListsKept.{lists_step}
 use Rattle.wait_core.proofs.MaySleepIsMarked.{may_kept}
 use Rattle.wait_core.proofs.SetLatchWakes.{latch_kept}
 use Rattle.wait_core.proofs.ShutdownWakes.{shutdown_kept}
@@ -186,7 +187,7 @@ module _ {C : Type 0} (holds : List ℕ → List (PartyView C) → List ℕ → 
         shutdown = subst (Rattle.wait_core.specs.ShutdownWakes.ShutdownWakes z (set s.words i (becomes k n))) seen
             (shutdown_kept z s.words (map standing_of s.views) one id o (standing_of v) (standing_of w) at' own own below (omega arith) r.shutdown k found ok e goes);
         made = subst (WordsAreMade z (set s.words i (becomes k n))) (sym (map-set doings_of s.views id w)) (made_step z s.words (map doings_of s.views) id (doings_of v) o k (list_of k n found (number_of v.own) v.place) (at_map doings_of s.views id v at) own (omega arith) r.made);
-        lists = ?;
+        lists = lists_step z (get_or s.words 0 0) s.words s.homes s.views (omega arith) r.flags r.roster r.lists id v at o own below k ok fit (r.flags i inside.0 inside.1);
         left = subst LeftAreFree (sym (unseen party_of s.views id v w at refl)) r.left;
         barriers = subst (λ (l : List (PartyView C)). Barriers l (phases z phase)) (sym (unseen party_of s.views id v w at refl)) r.barriers;
         here = subst (IdleAreHere (phases z phase)) (sym (map-set attendance_of s.views id w)) (each_set (IsHere (phases z phase)) (map attendance_of s.views) id (attendance_of w) r.here (λ _. r.here id (attendance_of v) (at_map attendance_of s.views id v at) refl));

@@ -23,7 +23,7 @@ use Rattle.wait_core.specs.declared.view.WaitView.{WaitView}
 use Rattle.wait_core.specs.Words.{set_at, may_at, byte_at, shut_at, slot_of, spin_at}
 use Rattle.wait_core.specs.Lists.{is_listed, is_empty, rest_of}
 use Rattle.wait_core.specs.Jobs.{condition_of, spot_of, left_list, target_after, heeds_after, resumed, goes_on}
-use Rattle.wait_core.specs.Machine.{Place, top, outer, number_of, word_of, becomes, watching, begun, reloaded, marked, woken, looked, drained, reset, entered, as_kept, taken, spun, place_then, target_then, heeds_then, left_at, home_of, home_in, slot_number, act_of, carried, MayBegin, BeginsLoad, takes_first, spot_for, MayReload, MayMark, MayWake, MayLook, MayDrain, MayReset, MayTake, MaySpin, MayFree, IsSpot, Permits, next_with}
+use Rattle.wait_core.specs.Machine.{Place, top, outer, number_of, word_of, becomes, watching, begun, reloaded, marked, woken, looked, drained, reset, entered, as_kept, taken, spun, place_then, target_then, heeds_then, left_at, home_of, home_in, slot_number, act_of, carried, SetsLatchOf, WaitsForLatch, IsInside, MayBegin, BeginsLoad, takes_first, spot_for, MayReload, MayMark, MayWake, MayLook, MayDrain, MayReset, MayTake, MaySpin, MayFree, IsSpot, Permits, next_with}
 use Rattle.wait_core.specs.Fits.{BehindSet, BehindWait, BehindCancel, JobFits, Fits}
 use Rattle.wait_core.specs.Stances.{Hand, Stance, Homes, hand_at, belongs_at, heeds_at, pops_at, stance_of}
 use Rattle.wait_core.proofs.Lists.{listed_there, not_listed}
@@ -34,7 +34,7 @@ abbrev pub stance : Option ℕ → Option ℕ → Bool → Place → Stance
 stance own t h p = record { own = own; hand = hand_at p; belongs = belongs_at t p; heeds = heeds_at h t p; pops = pops_at p }
 
 -- who has no target heeds nothing
-no_heeds : (h : Bool) → cond {A = Option ℕ} h None None ≡ None
+pub no_heeds : (h : Bool) → cond {A = Option ℕ} h None None ≡ None
 no_heeds true = refl
 no_heeds false = refl
 
@@ -45,6 +45,13 @@ is_one n few e = let ne = eqb-false n 0 e in omega arith
 at_top : (P : Place → Type 0) (p : Place) (f : Frame) → top p ≡ Some f → P (f ∷ outer p) → P p
 at_top P [] f e h = absurd (cc)
 at_top P (g ∷ p) f e h = let is : f ≡ g = cc in subst (λ (x : Frame). P (x ∷ p)) is h
+
+-- a call that neither sets a latch nor waits for it begins inside no other
+outside : (c : Call) → ((q : ℕ) → SetsLatchOf q c → ⊥) → (WaitsForLatch c → ⊥) → (f : Frame) → IsInside c f → ⊥
+outside c sets waits (Signalling d q) may = sets q may
+outside c sets waits (Rousing d q more) may = sets q may
+outside c sets waits (SleepWaiting d) may = waits may
+outside c sets waits f may = may
 
 module _ (own t : Option ℕ) (h : Bool) where
   abbrev at_place : Place → Stance
@@ -119,7 +126,7 @@ module _ (own t : Option ℕ) (h : Bool) where
 
   stopping_same : (p : Place) → MayBegin call.Shut p → at_place (Stopping 0 ∷ p) ≡ at_place p
   stopping_same [] ok = refl
-  stopping_same (f ∷ p) ok = absurd ok
+  stopping_same (f ∷ p) ok = absurd (outside call.Shut (λ q h. h) (λ h. h) f ok)
 
   spun_same : (b : Bool) (x : Spot) (p : Place) → MaySpin x (top p) → at_place (spun b p) ≡ at_place p
   spun_same true x (Spinning j ∷ p) ok = refl
@@ -137,26 +144,26 @@ reset_heeds own h c p = λ i. record (stance own (Some c) h (Resetting c ∷ p))
 -- a call begins by taking a spin word
 enters : (own t : Option ℕ) (h : Bool) (c : Call) (x : Spot) (p : Place) → spot_for (takes_first t c) ≡ Some x → MayBegin c p → EntersAt own t h x p (entered t c p)
 enters own (Some s) h call.Cancel x [] at may = (job.Cancel s, [], refl, (cc), refl)
-enters own (Some s) h call.Cancel x (f ∷ p) at may = absurd may
+enters own (Some s) h call.Cancel x (f ∷ p) at may = absurd (outside call.Cancel (λ q h. h) (λ h. h) f may)
 enters own None h call.Cancel x p at may = absurd (cc)
 enters own (Some s) h (call.Prepare c) x [] at may = (job.Cancel s, Preparing c ∷ [], refl, (cc), refl)
-enters own (Some s) h (call.Prepare c) x (f ∷ p) at may = absurd may
+enters own (Some s) h (call.Prepare c) x (f ∷ p) at may = absurd (outside (call.Prepare c) (λ q h. h) (λ h. h) f may)
 enters own None h (call.Prepare c) x [] at may = (job.Prepare c, [], refl, (cc), refl)
-enters own None h (call.Prepare c) x (f ∷ p) at may = absurd may
+enters own None h (call.Prepare c) x (f ∷ p) at may = absurd (outside (call.Prepare c) (λ q h. h) (λ h. h) f may)
 enters own (Some s) h (call.Sleep c) x [] at may = (job.Cancel s, Preparing c ∷ [], refl, by_target (eqb s c) at, refl)
   where
     by_target : (b : Bool) → spot_for (cond b None (Some s)) ≡ Some x → Cv s ≡ x
     by_target true e = absurd (cc)
     by_target false e = (cc)
-enters own (Some s) h (call.Sleep c) x (f ∷ p) at may = absurd may
+enters own (Some s) h (call.Sleep c) x (f ∷ p) at may = absurd (outside (call.Sleep c) (λ q h. h) (λ h. h) f may)
 enters own None h (call.Sleep c) x [] at may = (job.Prepare c, [], refl, (cc), refl)
-enters own None h (call.Sleep c) x (f ∷ p) at may = absurd may
+enters own None h (call.Sleep c) x (f ∷ p) at may = absurd (outside (call.Sleep c) (λ q h. h) (λ h. h) f may)
 enters own (Some s) h (call.Signal c) x [] at may = (job.Signal c, [], refl, (cc), refl)
 enters own None h (call.Signal c) x [] at may = (job.Signal c, [], refl, (cc), refl)
-enters own t h (call.Signal c) x (f ∷ p) at may = absurd may
+enters own t h (call.Signal c) x (f ∷ p) at may = absurd (outside (call.Signal c) (λ q h. h) (λ h. h) f may)
 enters own (Some s) h (call.Broadcast c) x [] at may = (job.Cancel s, Broadcasting c ∷ [], refl, (cc), refl)
 enters own None h (call.Broadcast c) x [] at may = (job.Broadcast c, [], refl, (cc), refl)
-enters own t h (call.Broadcast c) x (f ∷ p) at may = absurd may
+enters own t h (call.Broadcast c) x (f ∷ p) at may = absurd (outside (call.Broadcast c) (λ q h. h) (λ h. h) f may)
 enters own (Some s) h c x p at may = absurd (cc)
 enters own None h c x p at may = absurd (cc)
 
@@ -242,11 +249,11 @@ module _ (z : Size) (words : List ℕ) (homes : Homes) (o : ℕ) (below : o < z.
     begun_turned q (call.Wait Latch) b (f ∷ p) one ok may fits = absurd may
     begun_turned q (call.Wait LatchOrShutdown) true [] one ok may fits = stays (reads refl) refl refl
     begun_turned q (call.Wait LatchOrShutdown) false [] one ok may fits = stays (reads refl) refl refl
-    begun_turned q (call.Wait LatchOrShutdown) b (f ∷ p) one ok may fits = absurd may
+    begun_turned q (call.Wait LatchOrShutdown) b (f ∷ p) one ok may fits = absurd (outside (call.Wait LatchOrShutdown) (λ q h. h) (λ h. h) f may)
     begun_turned q call.IsSet b p one ok may fits = stays (reads refl) refl refl
     begun_turned q (call.Sleep c) true [] one ok may fits = stays (reads refl) refl refl
     begun_turned q (call.Sleep c) false [] one ok may fits = stays (reads refl) refl refl
-    begun_turned q (call.Sleep c) b (f ∷ p) one ok may fits = absurd may
+    begun_turned q (call.Sleep c) b (f ∷ p) one ok may fits = absurd (outside (call.Sleep c) (λ q h. h) (λ h. h) f may)
     begun_turned q c b p one ok may fits = absurd ok
 
     -- the latch of q is set

@@ -27,7 +27,7 @@ invariant_of-result g c =
       record {
         words = c.in-Ok.ensures.ok.0 ∙ (ap (λ (l : List ℕ). length l) (c.as_slice.ensures.value ∙ c.in_ok-words.ensures)
             ∙ length-opening (g.P.Party.holds c.args.party) z c.args.opening_phase c.words-count.result (g.P.Party.opens c.args.party) (g.P.Party.first c.args.party));
-        slots = ?;
+        slots = c.in-Ok.ensures.ok.1 ∙ c.in_ok-homes.ensures.count;
         procs = c.requires.procs;
         cvs = c.requires.cvs.1;
         bars = c.requires.bars.1;

@@ -1,0 +1,72 @@
+-- What is taken in hand was at home, and its list holds backends of the table, each once.
+use Rattle.std.proofs.Common.{◌≡◌, ℕ, ◌+◌, ◌<◌, ◌≤◌, eqb, Bool, true, false, cond, List, length, map, get_or, Option, None, Some, refl, sym, ap, ◌∙◌, subst, arith, eqb-true}
+use mathlib.Core.Option as maybe
+use lib.ListN.{get_elem?}
+use Rattle.atomic_table.specs.Table.{Valid, keeps, takes}
+use Rattle.atomic_table.proofs.Lists.{at_map}
+use Rattle.seat_roster.specs.Totals.{total}
+use Rattle.seat_roster.specs.Roster.{Roster, times}
+use Rattle.seat_roster.proofs.Totals.{total_le, total_none}
+use Rattle.seat_roster.proofs.Numbers.{own_inside}
+use Rattle.seat_roster.proofs.Stretches.{from_seen}
+use Rattle.wait_core.specs.declared.step.WaitStep.{WaitStep}
+use Rattle.wait_core.specs.declared.step.WaitStep.TheVariants.{Sload, Sset, Reset, Mstore, Mload, Byte, Look, Drain, Shload, Shstore, Take, Spin, Free}
+use Rattle.wait_core.specs.declared.view.Kept.{Kept}
+use Rattle.wait_core.specs.declared.view.Size.{Size}
+use Rattle.wait_core.specs.declared.view.WaitView.{WaitView}
+use Rattle.wait_core.specs.Words.{slot_of, spin_at}
+use Rattle.wait_core.specs.Lists.{is_listed, AllBelow}
+use Rattle.wait_core.specs.Machine.{Place, home_of, home_in, slot_number, word_of, act_of, Permits}
+use Rattle.wait_core.specs.Seating.{numbers_of}
+use Rattle.wait_core.specs.Stances.{Stance, Homes, stance_of, both_are, belongs_to, listed_by}
+use Rattle.wait_core.specs.ListsStand.{ListsStand}
+use Rattle.wait_core.specs.Told.{TellsList, Tells}
+use Rattle.wait_core.proofs.Lists.{not_listed, fits_below, room_below, all_below}
+use Rattle.wait_core.proofs.Owning.{both_else, counts_most, alone_stances}
+
+module _ {C : Type 0} (z : Size) (next : ℕ) (words : List ℕ) (homes : Homes) (views : List (WaitView C)) (few : next ≤ z.procs) (roster : Roster z.procs next (map numbers_of views)) (stand : ListsStand z words homes (map stance_of views)) where
+  abbrev seats : List Stance
+  seats = map stance_of views
+
+  -- no seat has such a number
+  strange : (q x : ℕ) → z.procs ≤ q → total (belongs_to q x) seats ≡ 0
+  strange q x more = total_none (belongs_to q x) seats (λ i v at. let u = from_seen stance_of views i v at in subst (λ (y : Stance). belongs_to q x y ≡ 0) u.2 (by_own i u.0 u.1 u.0.own refl))
+    where
+      by_own : (i : ℕ) (u : WaitView C) → get_elem? views i ≡ maybe.some u → (own : Option ℕ) → u.own ≡ own → belongs_to q x (stance_of u) ≡ 0
+      by_own i u at None is = ap (λ (o : Option ℕ). both_are q x o (stance_of u).belongs) is
+      by_own i u at (Some p) is = let below = own_inside z.procs next (map numbers_of views) roster i p (numbers_of u) (at_map numbers_of views i u at) is in both_else q p x u.own (stance_of u).belongs is (λ e. omega arith)
+
+  module _ (x : ℕ) (inside : x < z.cvs + z.bars) (k : Kept) (home : get_elem? homes x ≡ maybe.some (maybe.some k)) where
+    on_list : (q : ℕ) → times q k.list.items ≤ total (belongs_to q x) seats
+    on_list q = let all = stand.listed q x inside in let here = ap (λ (h : maybe.Option (maybe.Option Kept)). times q (home_of h).list.items) home in omega arith
+
+    once : (q : ℕ) → times q k.list.items ≤ 1
+    once q = let on = on_list q in let one = counts_most seats q x (λ v. v.belongs) (alone_stances z.procs next views roster) in omega arith
+
+    pub tells_list : (own : ℕ) → own < z.procs → TellsList z own k.list.items
+    tells_list own below =
+        let all = all_below z.procs k.list.items (λ q more. let on = on_list q in let none = strange q x more in omega arith) in
+        record { all = all; few = fits_below z.procs k.list.items all once; room = λ off. room_below z.procs k.list.items all once own below (not_listed own k.list.items off) }
+
+  -- a spin word is found clear
+  module _ (o : ℕ) (own t : Option ℕ) (p : Place) where
+    taken_home : (x : ℕ) → x < z.cvs + z.bars → get_or words (spin_at z x) 0 ≡ 0 → get_elem? homes x ≡ maybe.some (maybe.some (home_in homes x))
+    taken_home x inside clear = let there = (stand.hands x inside).at_home clear in there.1 ∙ ap (λ (k : Kept). maybe.some (maybe.some k)) (sym (ap home_of there.1))
+
+    take_valid : (x : ℕ) (c : List (ℕ × Kept)) → x < z.cvs + z.bars → Valid homes c (cond (eqb (get_or words (spin_at z x) 0) 0) (takes x (home_in homes x)) keeps)
+    take_valid x c inside = by_word (eqb (get_or words (spin_at z x) 0) 0) refl
+      where
+        by_word : (clear : Bool) → eqb (get_or words (spin_at z x) 0) 0 ≡ clear → Valid homes c (cond clear (takes x (home_in homes x)) keeps)
+        by_word true e = taken_home x inside (eqb-true _ 0 e)
+        by_word false e = tt
+
+    pub act_valid : (k : WaitStep) → Permits z k own t p → (c : List (ℕ × Kept)) → Valid homes c (act_of z k (get_or words (word_of z o k) 0) (home_in homes (slot_number z k)))
+    act_valid (Take x (Some b)) ok c = take_valid (slot_of z x) c ok.0
+    act_valid (Take x None) ok c = take_valid (slot_of z x) c ok.0
+    act_valid (Free x after) ok c = tt
+    act_valid k ok c = tt
+
+    pub step_tells : (k : WaitStep) → Permits z k own t p → o < z.procs → Tells z k o (get_or words (word_of z o k) 0) (home_in homes (slot_number z k)).list.items
+    step_tells (Take x (Some b)) ok below = λ clear. tells_list (slot_of z x) ok.0 (home_in homes (slot_of z x)) (taken_home (slot_of z x) ok.0 clear) o below
+    step_tells (Take x None) ok below = λ clear. tells_list (slot_of z x) ok.0 (home_in homes (slot_of z x)) (taken_home (slot_of z x) ok.0 clear) o below
+    step_tells k ok below = tt
