@@ -1,17 +1,21 @@
 -- The view of a seat along the steps of a call.
-use Rattle.std.proofs.Common.{◌≡◌, ℕ, ◌==◌, ◌≤◌, Bool, true, false, cond, List, [], ◌∷◌, ◌++◌, append-nil, append_assoc, Some, refl, sym, ap, ◌∙◌, arith}
+use Rattle.std.proofs.Common.{◌≡◌, ℕ, ◌==◌, ◌≤◌, Bool, true, false, cond, List, [], ◌∷◌, ◌++◌, append-nil, append_assoc, Some, Option, refl, sym, ap, ◌∙◌, subst, arith}
 use Rattle.wait_core.specs.declared.step.Until.{Until}
+use Rattle.wait_core.specs.declared.step.Until.TheVariants.{LatchOrShutdown}
 use Rattle.wait_core.specs.declared.step.WaitStep.{WaitStep}
 use Rattle.wait_core.specs.declared.view.Frame.{Frame}
-use Rattle.wait_core.specs.declared.view.Frame.TheVariants.{Looking, Asleep, Retracting, Stopping}
+use Rattle.wait_core.specs.declared.view.Frame.TheVariants.{Announcing, Looking, Asleep, Retracting, Stopping, SleepWaiting, Signalling, Rousing}
 use Rattle.wait_core.specs.declared.view.Made.{Made}
 use Rattle.wait_core.specs.declared.view.Size.{Size}
 use Rattle.wait_core.specs.declared.view.WaitView.{WaitView}
-use Rattle.wait_core.specs.Machine.{Place, top, outer, made, place_after, looked, next, MayLook}
+use Rattle.wait_core.specs.declared.step.Call.{Call}
+use Rattle.wait_core.specs.declared.step.Call.TheVariants as call
+use Rattle.wait_core.specs.Jobs.{resumed}
+use Rattle.wait_core.specs.Machine.{Place, top, outer, made, begun, behind_wait, place_after, looked, next, MayBegin, MayLook}
 use Rattle.wait_core.specs.declared.step.WaitStep.TheVariants.{Sload, Shload}
 use Rattle.latch.specs.declared.wait.Woke.{Woke}
 use Rattle.latch.specs.declared.wait.Woke.TheVariants.{LatchSet, Shutdown}
-use Rattle.latch.specs.Reads.{went, OnlyWaits, ReadLatch, ReadShutdown, WasRead}
+use Rattle.latch.specs.Reads.{went, later, ended, IsWaitOf, OnlyWaits, ReadLatch, ReadShutdown, WasRead}
 
 -- where a seat stands that looks at its wake byte
 abbrev pub watches : Until → Bool → Frame
@@ -20,12 +24,16 @@ watches u false = Looking u
 
 -- where a seat stands that has stored the wake bytes below n
 abbrev pub stopping : ℕ → ℕ → Place → Place
-stopping procs n p = cond (n == procs) p (Stopping n ∷ p)
+stopping procs n p = cond (n == procs) (resumed p) (Stopping n ∷ p)
 
 -- a place with this innermost frame
 pub at_top : (p : Place) (f : Frame) → top p ≡ Some f → p ≡ f ∷ outer p
 at_top [] f e = absurd (cc)
 at_top (g ∷ p) f e = ap (λ (x : Frame). x ∷ p) (cc)
+
+-- a step that moves its seat from place to place, and no more
+abbrev pub Moves : Type 0 → Size → WaitStep → Type 0
+Moves C z k = (y : WaitView C) (i : ℕ) → next z k y i ≡ went y (place_after z k i y.place) (made k i ∷ [])
 
 module _ {C : Type 0} where
   -- before the first step, where the innermost frame is f
@@ -33,8 +41,9 @@ module _ {C : Type 0} where
   went_nil v f e = ap (λ (p : Place). record v { place = p }) (at_top v.place f e) ∙ ap (λ (l : List Made). record v { place = f ∷ outer v.place; steps = l }) (sym (append-nil v.steps))
 
   -- one step more, which found m
-  pub went_on : (z : Size) (v w x : WaitView C) (p : Place) (more : List Made) (k : WaitStep) (n m : ℕ) → w ≡ went v p more → x ≡ next z k w n → n ≡ m → x ≡ went v (place_after z k m p) (more ++ made k m ∷ [])
-  went_on z v w x p more k n m was is found = is ∙ (ap (λ (y : WaitView C). next z k y n) was ∙ (ap (λ (i : ℕ). next z k (went v p more) i) found ∙ ap (λ (l : List Made). record v { place = place_after z k m p; steps = l }) (append_assoc v.steps more (made k m ∷ []))))
+  pub went_on : (z : Size) (v w x : WaitView C) (p : Place) (more : List Made) (k : WaitStep) (n m : ℕ) → Moves C z k → w ≡ went v p more → x ≡ next z k w n → n ≡ m → x ≡ went v (place_after z k m p) (more ++ made k m ∷ [])
+  went_on z v w x p more k n m moves was is found =
+      is ∙ (ap (λ (y : WaitView C). next z k y n) was ∙ (ap (λ (i : ℕ). next z k (went v p more) i) found ∙ (moves (went v p more) m ∙ ap (λ (l : List Made). record v { place = place_after z k m p; steps = l }) (append_assoc v.steps more (made k m ∷ [])))))
 
   -- the steps of an inner part
   pub went_through : (v w x : WaitView C) (p q : Place) (more rest : List Made) → w ≡ went v p more → x ≡ went w q rest → x ≡ went v q (more ++ rest)
@@ -71,3 +80,28 @@ read_later p Shutdown more rest r = (latch_later p 0 more rest r.0, shutdown_lat
 pub only-append : (p : ℕ) (u : Until) (more rest : List Made) → OnlyWaits p u more → OnlyWaits p u rest → OnlyWaits p u (more ++ rest)
 only-append p u [] rest a b = b
 only-append p u (m ∷ more) rest a b = (a.0, only-append p u more rest a.1 b)
+
+-- the first look of a call that begins with a wait of this kind
+pub begun_wait : (u : Until) (target : Option ℕ) (c : Call) (clear : Bool) (p : Place) → IsWaitOf u target c → begun c clear p ≡ cond clear (Announcing u ∷ behind_wait c p) (resumed (behind_wait c p))
+begun_wait u target (call.Wait w) clear p is = ap (λ (x : Until). cond clear (Announcing x ∷ p) (resumed p)) is
+begun_wait u target (call.Sleep c) clear p is = ap (λ (x : Until). cond clear (Announcing x ∷ behind_wait (call.Sleep c) p) (resumed (behind_wait (call.Sleep c) p))) (sym is.0)
+begun_wait u target c clear p is = absurd is
+
+-- a call that stands inside no other begins where nothing is behind it
+pub wait_idle : (p : Place) → MayBegin (call.Wait LatchOrShutdown) p → p ≡ []
+wait_idle [] ok = refl
+wait_idle (Signalling d q ∷ p) ok = absurd ok
+wait_idle (Rousing d q more ∷ p) ok = absurd ok
+wait_idle (SleepWaiting d ∷ p) ok = absurd ok
+wait_idle (f ∷ p) ok = absurd ok
+
+pub shut_idle : (p : Place) → MayBegin call.Shut p → p ≡ []
+shut_idle [] ok = refl
+shut_idle (Signalling d q ∷ p) ok = absurd ok
+shut_idle (Rousing d q more ∷ p) ok = absurd ok
+shut_idle (SleepWaiting d ∷ p) ok = absurd ok
+shut_idle (f ∷ p) ok = absurd ok
+
+-- where nothing is behind it, a call ends where it began
+pub ends_idle : (p : Place) → p ≡ [] → resumed p ≡ p
+ends_idle p is = subst (λ (q : Place). resumed q ≡ q) (sym is) refl

@@ -3,14 +3,15 @@ use Rattle.std.specs.Prelude.{◌≡◌, ◌⊎◌, ℕ, zero, suc, List, [], �
 use Rattle.latch.specs.declared.wait.Woke.{Woke}
 use Rattle.latch.specs.declared.wait.Woke.TheVariants.{LatchSet, Shutdown}
 use Rattle.wait_core.specs.declared.step.Until.{Until}
-use Rattle.wait_core.specs.declared.step.Until.TheVariants.{LatchOrShutdown}
+use Rattle.wait_core.specs.declared.step.Until.TheVariants.{Latch, LatchOrShutdown}
 use Rattle.wait_core.specs.declared.step.Call.{Call}
 use Rattle.wait_core.specs.declared.step.Call.TheVariants as call
 use Rattle.wait_core.specs.declared.step.WaitStep.{WaitStep}
-use Rattle.wait_core.specs.declared.step.WaitStep.TheVariants.{Sload, Sset, Reset, Mstore, Mload, Byte, Look, Drain, Shload, Shstore}
+use Rattle.wait_core.specs.declared.step.WaitStep.TheVariants.{Sload, Sset, Mstore, Mload, Byte, Look, Drain, Shload, Shstore}
 use Rattle.wait_core.specs.declared.view.Made.{Made}
 use Rattle.wait_core.specs.declared.view.Size.{Size}
 use Rattle.wait_core.specs.declared.view.WaitView.{WaitView}
+use Rattle.wait_core.specs.Jobs.{resumed}
 use Rattle.wait_core.specs.Machine.{made, Place, next}
 
 -- the view after more steps: nothing else changed
@@ -19,6 +20,10 @@ went v p more = record v { place = p; steps = v.steps ++ more }
 
 abbrev pub later : {C : Type 0} → WaitView C → List Made → WaitView C
 later v more = went v v.place more
+
+-- the same of a call that ended: a program that has it inside goes on
+abbrev pub ended : {C : Type 0} → WaitView C → List Made → WaitView C
+ended v more = went v (resumed v.place) more
 
 -- among the steps there is a load of the latch of p that found n
 pub record ReadLatch (p n : ℕ) (more : List Made) : Type 0 where
@@ -61,23 +66,29 @@ IsOfWait p u (Shload (Some c)) = ⊥
 IsOfWait p u (Mstore may) = Unit {0}
 IsOfWait p u Look = Unit {0}
 IsOfWait p u Drain = Unit {0}
-IsOfWait p u (Sset q) = ⊥
-IsOfWait p u (Reset begins) = ⊥
-IsOfWait p u (Mload q) = ⊥
-IsOfWait p u (Byte q) = ⊥
-IsOfWait p u (Shstore begins) = ⊥
+IsOfWait p u k = ⊥
 
 -- all of the steps are such
 abbrev pub OnlyWaits : ℕ → Until → List Made → Type 0
 OnlyWaits p u [] = Unit {0}
 OnlyWaits p u (m ∷ more) = IsOfWait p u m.step × OnlyWaits p u more
 
--- the steps of a wait: it begins with a load of the own latch, and makes no other call inside
-pub record WaitSteps (p : ℕ) (u : Until) (more : List Made) : Type 0 where
+-- the steps of a wait with which this call begins: the first is a load of the own latch, and no other call is made inside
+pub record BeginsWait (p : ℕ) (begins : Call) (u : Until) (more : List Made) : Type 0 where
   pub found : ℕ
   pub then : List Made
-  pub split : more ≡ made (Sload p (Some (call.Wait u))) found ∷ then
+  pub split : more ≡ made (Sload p (Some begins)) found ∷ then
   pub only : OnlyWaits p u then
+
+-- the steps of a wait that is a call of its own
+abbrev pub WaitSteps : ℕ → Until → List Made → Type 0
+WaitSteps p u more = BeginsWait p (call.Wait u) u more
+
+-- a call that begins with a wait of this kind: the wait itself, or a sleep on the target
+abbrev pub IsWaitOf : Until → Option ℕ → Call → Type 0
+IsWaitOf u target (call.Wait w) = w ≡ u
+IsWaitOf u target (call.Sleep c) = (u ≡ Latch) × (target ≡ Some c)
+IsWaitOf u target c = ⊥
 
 -- what ended a wait was read in it: the latch is looked at first
 abbrev pub WasRead : ℕ → Woke → List Made → Type 0

@@ -8,4 +8,4 @@ mod tests;
 mod wait;
 
 pub use set::{latch_is_set, read_shutdown, reset_latch, set_latch, shut_down};
-pub use wait::{Woke, wait_latch, wait_latch_only};
+pub use wait::{Woke, wait_in_sleep, wait_latch, wait_latch_only};

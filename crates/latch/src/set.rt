@@ -4,6 +4,7 @@ ghost use Rattle.wait_core.specs.Seats.{size_of};
 ghost use Rattle.wait_core.specs.declared.step.Call.TheVariants as call;
 ghost use Rattle.wait_core.specs.declared.step.WaitStep.TheVariants as kind;
 ghost use Rattle.wait_core.specs.declared.view.Made.{Made};
+ghost use Rattle.wait_core.specs.Jobs.{resumed};
 ghost use Rattle.wait_core.specs.Machine.{MayBegin, next};
 ghost use Rattle.latch.specs.Reads.{later, HasSet, ShutSteps};
 
@@ -16,7 +17,7 @@ pub fn set_latch<P: Party>(table: &WaitTable<P>, seat: &mut WaitSeat<P>, target:
     requires target { target < table.now.procs }
     requires place { MayBegin (call.Set target) seat.old.view.place }
     ensures table { (seat.new.table_id ≡ seat.old.table_id) × (seat.new.id ≡ seat.old.id) }
-    ensures place { seat.new.view.place ≡ seat.old.view.place }
+    ensures place { seat.new.view.place ≡ resumed seat.old.view.place }
     ensures set { HasSet (size_of table.now) target seat.old.view seat.new.view }
 {
     let begins = Some(Call::Set(target));

@@ -2,14 +2,15 @@
 ghost use Rattle.std.specs.Prelude.{◌≡◌, ℕ, ◌∷◌, List, Some, false, MatchOption};
 ghost use Rattle.wait_core.specs.declared.step.Call.TheVariants as call;
 ghost use Rattle.wait_core.specs.declared.step.Until.TheVariants.{Latch, LatchOrShutdown};
-ghost use Rattle.wait_core.specs.declared.view.Frame.TheVariants.{Announcing, Looking, Repeating};
+ghost use Rattle.wait_core.specs.declared.view.Frame.TheVariants.{Announcing, Looking, Repeating, Resetting};
 ghost use Rattle.wait_core.specs.declared.view.Made.{Made};
-ghost use Rattle.wait_core.specs.Machine.{MayBegin, top, outer};
+ghost use Rattle.wait_core.specs.Jobs.{resumed};
+ghost use Rattle.wait_core.specs.Machine.{MayBegin, behind_wait, top, outer};
 ghost use Rattle.wait_core.specs.Places.{may_sleep};
-ghost use Rattle.latch.specs.Reads.{went, later, OnlyWaits, ReadLatch, WaitSteps, WasRead};
+ghost use Rattle.latch.specs.Reads.{went, later, ended, BeginsWait, IsWaitOf, OnlyWaits, ReadLatch, WaitSteps, WasRead};
 ghost use Rattle.latch.specs.declared.wait.Woke.TheVariants.{LatchSet};
 
-use proc_table::ProcNo;
+use proc_table::{CvNo, ProcNo};
 use std::sync::Wait;
 use wait_core::{Call, Party, Until, WaitSeat, WaitStep, WaitTable};
 
@@ -30,7 +31,8 @@ pub fn wait_latch<P: Party, R: Wait>(rt: &R, table: &WaitTable<P>, seat: &mut Wa
     ensures may { may_sleep (top seat.new.view.place) ≡ false }
 {
     let own = seat.proc();
-    wait_until(rt, table, seat, own, Until::LatchOrShutdown)
+    let until = Until::LatchOrShutdown;
+    wait_until(rt, table, seat, own, until, Call::Wait(until))
 }
 
 /// Waits until the own latch is set. A shutdown doesn't end it.
@@ -38,11 +40,29 @@ pub fn wait_latch_only<P: Party, R: Wait>(rt: &R, table: &WaitTable<P>, seat: &m
     requires table { seat.old.table_id ≡ table.now.table_id }
     requires place { MayBegin (call.Wait Latch) seat.old.view.place }
     ensures table { (seat.new.table_id ≡ seat.old.table_id) × (seat.new.id ≡ seat.old.id) }
-    ensures set { (p : ℕ) × (more : List Made) × (seat.old.view.own ≡ Some p) × (seat.new.view ≡ later seat.old.view more) × WaitSteps p Latch more × ReadLatch p 1 more }
+    ensures set { (p : ℕ) × (more : List Made) × (seat.old.view.own ≡ Some p) × (seat.new.view ≡ ended seat.old.view more) × WaitSteps p Latch more × ReadLatch p 1 more }
     ensures may { may_sleep (top seat.new.view.place) ≡ false }
 {
     let own = seat.proc();
-    wait_until(rt, table, seat, own, Until::Latch);
+    wait_until(rt, table, seat, own, Until::Latch, Call::Wait(Until::Latch));
+}
+
+/// The first wait of a sleep on the condition that is the target: the step with which it begins
+/// begins the sleep.
+pub fn wait_in_sleep<P: Party, R: Wait>(
+    rt: &R,
+    table: &WaitTable<P>,
+    seat: &mut WaitSeat<P>,
+    condition: CvNo,
+)
+    requires table { seat.old.table_id ≡ table.now.table_id }
+    requires target { seat.old.view.target ≡ Some condition }
+    requires place { MayBegin (call.Sleep condition) seat.old.view.place }
+    ensures table { (seat.new.table_id ≡ seat.old.table_id) × (seat.new.id ≡ seat.old.id) }
+    ensures set { (p : ℕ) × (more : List Made) × (seat.old.view.own ≡ Some p) × (seat.new.view ≡ went seat.old.view (Resetting condition ∷ seat.old.view.place) more) × BeginsWait p (call.Sleep condition) Latch more × ReadLatch p 1 more }
+{
+    let own = seat.proc();
+    wait_until(rt, table, seat, own, Until::Latch, Call::Sleep(condition));
 }
 
 fn wait_until<P: Party, R: Wait>(
@@ -51,16 +71,21 @@ fn wait_until<P: Party, R: Wait>(
     seat: &mut WaitSeat<P>,
     own: ProcNo,
     until: Until,
+    begins: Call,
 ) -> Woke
     requires table { seat.old.table_id ≡ table.now.table_id }
     requires own { seat.old.view.own ≡ Some own }
-    requires place { MayBegin (call.Wait until) seat.old.view.place }
+    requires place { MayBegin begins seat.old.view.place }
+    requires begins { IsWaitOf until seat.old.view.target begins }
     ensures table { (seat.new.table_id ≡ seat.old.table_id) × (seat.new.id ≡ seat.old.id) }
-    ensures woke { (more : List Made) × (seat.new.view ≡ later seat.old.view more) × WaitSteps own until more × WasRead own result more }
+    ensures woke { (more : List Made) × (seat.new.view ≡ went seat.old.view (resumed (behind_wait begins seat.old.view.place)) more) × BeginsWait own begins until more × WasRead own result more }
     ensures only { until ≡ Latch → result ≡ LatchSet }
 {
-    let begins = Some(Call::Wait(until));
-    if table.step(seat, WaitStep::Sload(own, begins)).old == 1 {
+    if table
+        .step(seat, WaitStep::Sload(own, Some(begins)))
+        .old
+        == 1
+    {
         return Woke::LatchSet;
     }
     for _ in rt.forever() {
@@ -87,7 +112,7 @@ fn look_and_sleep<P: Party, R: Wait>(
     requires own { seat.old.view.own ≡ Some own }
     requires place { top seat.old.view.place ≡ Some (Announcing until) }
     ensures table { (seat.new.table_id ≡ seat.old.table_id) × (seat.new.id ≡ seat.old.id) }
-    ensures woke { MatchOption result ((more : List Made) × (seat.new.view ≡ went seat.old.view (Repeating until ∷ outer seat.old.view.place) more) × OnlyWaits own until more) (λ w. (more : List Made) × (seat.new.view ≡ went seat.old.view (outer seat.old.view.place) more) × WasRead own w more × (until ≡ Latch → w ≡ LatchSet) × OnlyWaits own until more) }
+    ensures woke { MatchOption result ((more : List Made) × (seat.new.view ≡ went seat.old.view (Repeating until ∷ outer seat.old.view.place) more) × OnlyWaits own until more) (λ w. (more : List Made) × (seat.new.view ≡ went seat.old.view (resumed (outer seat.old.view.place)) more) × WasRead own w more × (until ≡ Latch → w ≡ LatchSet) × OnlyWaits own until more) }
 {
     table.step(seat, WaitStep::Mstore(true));
     let again = table.step(seat, WaitStep::Sload(own, None));
