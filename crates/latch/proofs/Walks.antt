@@ -105,3 +105,6 @@ shut_idle (f ∷ p) ok = absurd ok
 -- where nothing is behind it, a call ends where it began
 pub ends_idle : (p : Place) → p ≡ [] → resumed p ≡ p
 ends_idle p is = subst (λ (q : Place). resumed q ≡ q) (sym is) refl
+
+pub ended_idle : {C : Type 0} (v w : WaitView C) (more : List Made) → v.place ≡ [] → w ≡ ended v more → w ≡ later v more
+ended_idle v w more idle is = is ∙ ap (λ (p : Place). went v p more) (ends_idle v.place idle)

@@ -31,7 +31,7 @@ returns-then-read_shutdown-clause-stopped g c =
     let woke = c.in_default.ensures.woke in
     let ended = ended_here v mid c.args.own woke.0 LatchSet inv.1 woke.1 c.requires.own inv.2 woke.2 woke.4 woke.5 in
     let last : List Made = woke.1 ++ looked_again 1 ∷ [] in
-    let looked = went_on (size_of c.args.table.now) mid _ _ mid.place woke.1 (Shload (Some call.IsShut)) _ 1 woke.3 c.read_shutdown.ensures.read (ap (λ (b : Bool). if b then 1 else 0) c.if-read_shutdown.true) in (
+    let looked = went_on (size_of c.args.table.now) mid _ _ mid.place woke.1 (Shload (Some call.IsShut)) _ 1 (λ y i. refl) woke.3 c.read_shutdown.ensures.read (ap (λ (b : Bool). if b then 1 else 0) c.if-read_shutdown.true) in (
       inv.1 ++ last,
       later_again v mid _ inv.1 last inv.2 looked,
       shutdown_later 1 inv.1 last record { before = woke.1; begins = Some call.IsShut; then = []; split = refl },
@@ -46,5 +46,5 @@ loop-preserved g c =
     let woke = c.in_default.ensures.woke in
     let ended = ended_here v mid c.args.own woke.0 LatchSet inv.1 woke.1 c.requires.own inv.2 woke.2 woke.4 woke.5 in
     let round : List Made = woke.1 ++ looked_again 0 ∷ [] in
-    let looked = went_on (size_of c.args.table.now) mid _ _ mid.place woke.1 (Shload (Some call.IsShut)) _ 0 woke.3 c.read_shutdown.ensures.read (ap (λ (b : Bool). if b then 1 else 0) c.if-read_shutdown.false) in
+    let looked = went_on (size_of c.args.table.now) mid _ _ mid.place woke.1 (Shload (Some call.IsShut)) _ 0 (λ y i. refl) woke.3 c.read_shutdown.ensures.read (ap (λ (b : Bool). if b then 1 else 0) c.if-read_shutdown.false) in
     ((cc), (cc), (suc inv.0, inv.1 ++ round, later_again v mid _ inv.1 round inv.2 looked, (inv.1, woke.1, inv.3, ended, refl)))

@@ -2,13 +2,14 @@ use Rattle.std.proofs.Common.{MatchOption, inl, inr, subst}
 use Rattle.wait_core.specs.declared.step.Until.TheVariants as until
 use Rattle.wait_event_set.specs.declared.set.Event.TheVariants.{Latch, Shutdown}
 use Rattle.wait_event_set.specs.Members.{NoneSuch, FirstAt}
+use Rattle.latch.proofs.Walks.{ended_idle}
 use Rattle.wait_event_set.proofs.Found.{some_member}
 use Rattle.wait_event_set.proofs.set.EventSet.wait.Goals as goal
 
 pub returns-in-Some-None-clause-calls : goal.returns-in-Some-None-clause-calls
 returns-in-Some-None-clause-calls g c =
     let set = c.wait_latch_only.ensures.set in
-    (_, _, set.2, set.3, inl (c.in-Some-None.at, until.Latch, c.in-Some-None.ensures, c.in-Some-None.ensures', set.4))
+    (_, _, set.2, ended_idle c.args.seat.now.view c.wait_latch_only.new.seat.view set.1 c.requires.place set.3, inl (c.in-Some-None.at, until.Latch, c.in-Some-None.ensures, c.in-Some-None.ensures', set.4))
 
 pub returns-in-LatchSet-clause-calls : goal.returns-in-LatchSet-clause-calls
 returns-in-LatchSet-clause-calls g c =
