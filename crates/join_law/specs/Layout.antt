@@ -3,22 +3,26 @@ use Rattle.std.specs.Prelude.{◌≡◌, ℕ, ◌+◌, ◌*◌, ◌/◌, ◌%◌
 use Rattle.join_law.specs.declared.step.Word.{Word}
 use Rattle.join_law.specs.declared.step.Word.TheVariants.{Sizes, InnerCursor, OuterCursor, Distributor, Results, BatchSize, Head, Next, Hash}
 
--- What a join is of: rows in both tables, the hash of each row's key, which rows meet, how many chains there is room for in a half, the opening buckets and batches, the number of batches after the first growth of batches, and whether the sizes may grow at all
+-- What a join is of. The rows of both tables have one numbering, the inner rows first
 pub record Join : Type 0 where
   pub inner : ℕ
   pub outer : ℕ
+  -- the hash of each row's key, where it has one, and which outer row meets which inner row
   pub hash : ℕ → Option ℕ
   pub meets : ℕ → ℕ → Bool
+  -- how many chains there is room for in a half
   pub chains : ℕ
+  -- the opening sizes, and how many batches the first growth of batches brings
   pub buckets : ℕ
   pub batches : ℕ
   pub first_batches : ℕ
+  -- whether the sizes may grow at all
   pub grows : Bool
 
 abbrev pub rows : Join → ℕ
 rows j = j.inner + j.outer
 
--- Heads are of the chains of half 0 and of half 1, of the inner stores of half 0 and of half 1, and of the outer stores. Growth moves rows from one half to the other
+-- the heads of the chains of half 0 and of half 1, of the inner stores of half 0 and of half 1, and of the outer stores. Growth moves rows to the other half
 abbrev pub heads : Join → ℕ
 heads j = 2 * j.chains + 192
 

@@ -91,7 +91,8 @@ At v bar ph = phase_of v.attached bar ≡ Some ph
 
 -- where a seat may put an inner row of this hash, and an outer row
 abbrev pub InnerPush : Join → View → SizesOf → ℕ → ℕ → Type 0
-InnerPush j v z x h = ((At v build HASH_INNER) × (growth_place j v ≡ true) × (h ≡ hashed_at j z x)) ⊎ ((At v (batch_bar (batch_of z x)) LOAD) × (h ≡ chain_at j z x))
+InnerPush j v z x h = ((At v build HASH_INNER) × (growth_place j v ≡ true) × (h ≡ hashed_at j z x))
+    ⊎ ((At v (batch_bar (batch_of z x)) LOAD) × (h ≡ chain_at j z x))
 
 abbrev pub OuterPush : Join → View → SizesOf → ℕ → ℕ → Type 0
 OuterPush j v z x h = (At v build HASH_OUTER) × (h ≡ outer_at j z x)
@@ -105,12 +106,14 @@ abbrev pub swept_at : Option Swept → ℕ → ℕ → ℕ
 swept_at None bar ph = 0
 swept_at (Some s) bar ph = cond ((s.bar == bar) && (s.phase == ph)) s.heads 0
 
--- where a seat may take rows from: from a store in its batch's LOAD or PROBE, and from the old half, head by head, while rows move. `ph` is the phase that it names
+-- where a seat may take rows from, in a phase that it names: from a store in its batch's LOAD or PROBE; from the old half, head by head, while rows move
 abbrev pub MayTake : Join → View → Source → ℕ → Type 0
 MayTake j v (from.Inner half batch) ph = (At v (batch_bar batch) LOAD) × (batch < 64) × (ph ≡ RUN) × WithSizes v (λ z. half ≡ z.half)
 MayTake j v (from.Outer batch) ph = (At v (batch_bar batch) PROBE) × (batch < 64) × (ph ≡ RUN)
-MayTake j v (from.Old bar turn head) ph = (At v bar ph) × IsGrowth bar × (growth_phase bar ph ≡ REINSERT) × (growth_place j v ≡ true) × (At v build HASH_INNER)
-    × WithSizes v (λ z. (turn < old_heads (before_growth j bar z)) × (head ≡ old_head j (before_growth j bar z) turn) × (turn ≤ swept_at v.client.swept bar ph))
+MayTake j v (from.Old bar turn head) ph = (At v bar ph) × IsGrowth bar × (growth_phase bar ph ≡ REINSERT)
+    × (growth_place j v ≡ true) × (At v build HASH_INNER)
+    × WithSizes v (λ z. (turn < old_heads (before_growth j bar z)) × (head ≡ old_head j (before_growth j bar z) turn)
+    × (turn ≤ swept_at v.client.swept bar ph))
 
 abbrev pub or_zero : Option ℕ → ℕ
 or_zero None = 0
@@ -171,7 +174,8 @@ claim_phase Outer = HASH_OUTER
 
 -- the sizes w that a growth at this barrier may bring: powers of two with room, from which those before it can be told
 abbrev pub Grown : Join → ℕ → SizesOf → SizesOf → Type 0
-Grown j bar z w = (before_growth j bar w ≡ z) × (1 ≤ w.buckets) × (1 ≤ w.batches) × (w.batches ≤ 64) × (w.half ≤ 1) × (w.buckets * w.batches ≤ j.chains) × (w.buckets ≤ 262144) × (IsPowerOfTwo w.buckets) × (IsPowerOfTwo w.batches)
+Grown j bar z w = (before_growth j bar w ≡ z) × (1 ≤ w.buckets) × (1 ≤ w.batches) × (w.batches ≤ 64) × (w.half ≤ 1)
+    × (w.buckets * w.batches ≤ j.chains) × (w.buckets ≤ 262144) × (IsPowerOfTwo w.buckets) × (IsPowerOfTwo w.batches)
 
 -- the other growth barrier
 abbrev pub other_growth : ℕ → ℕ
@@ -179,7 +183,8 @@ other_growth bar = 3 - bar
 
 -- who was elected for REALLOCATE may store new sizes once, while the other growth is at ELECT
 abbrev pub MayStoreSizes : Join → View → ℕ → ℕ → Type 0
-MayStoreSizes j v bar w = IsGrowth bar × With (phase_of v.attached bar) (λ ph. (growth_phase bar ph ≡ REALLOCATE) × (Elected v.elections bar ph) × (Elected v.client.stored bar ph → ⊥))
+MayStoreSizes j v bar w = IsGrowth bar
+    × With (phase_of v.attached bar) (λ ph. (growth_phase bar ph ≡ REALLOCATE) × (Elected v.elections bar ph) × (Elected v.client.stored bar ph → ⊥))
     × With (phase_of v.attached (other_growth bar)) (λ ph. growth_phase (other_growth bar) ph ≡ 0) × WithSizes v (λ z. Grown j bar z (sizes_of w))
 
 -- when a seat may make a step
@@ -188,7 +193,8 @@ Allowed j v (Load l) = MayLook j v l
 Allowed j v (Claim side) = (At v build (claim_phase side)) × (1 ≤ claims_of v side)
 Allowed j v (StoreHash row hash) = (InHand v row) × With (j.hash row) (λ x. hash ≡ x)
 Allowed j v (StoreNext row next) = InHand v row
-Allowed j v (Push row head found) = (InHand v row) × (v.client.hashed ≡ Some row) × (v.client.linked ≡ Some (row, found)) × With (j.hash row) (λ x. WithSizes v (λ z. MayPush j v row head z x))
+Allowed j v (Push row head found) = (InHand v row) × (v.client.hashed ≡ Some row) × (v.client.linked ≡ Some (row, found))
+    × With (j.hash row) (λ x. WithSizes v (λ z. MayPush j v row head z x))
 Allowed j v (Take row head next) = TakeIsReady j v v.client.taking row head next
 Allowed j v (AddBatchSize k by) = k < 128
 Allowed j v (ClearBatchSize k) = k < 128
@@ -217,7 +223,8 @@ saw_end v (from.Old bar turn head) = record (v.client) { taking = None; swept = 
 
 abbrev pub found_head : Join → View → Source → ℕ → HashView
 found_head j v source zero = saw_end v source
-found_head j v source (suc row) = record (v.client) { taking = Some (record { source = source; head = source_head j source; phase = source_phase v source; row = row; next = None }) }
+found_head j v source (suc row) =
+    record (v.client) { taking = Some (record { source = source; head = source_head j source; phase = source_phase v source; row = row; next = None }) }
 
 -- the row after the one that is taken was read, and a walk went on by one row
 abbrev pub next_read : Option Taking → ℕ → Option Taking
@@ -253,10 +260,12 @@ claimed_rows v first count chunk = record v { hand = v.hand ++ stretch first cou
 
 -- what a claim gives that found the cursor at n
 abbrev pub claimed_inner : Join → View → ℕ → HashView
-claimed_inner j v n = cond (nat_le j.inner n) (record (v.client) { inner_ended = true; inner_claims = v.client.inner_claims - 1 }) (claimed_rows v.client n (min 64 (j.inner - n)) 1)
+claimed_inner j v n = cond (nat_le j.inner n) (record (v.client) { inner_ended = true; inner_claims = v.client.inner_claims - 1 })
+    (claimed_rows v.client n (min 64 (j.inner - n)) 1)
 
 abbrev pub claimed_outer : Join → View → ℕ → HashView
-claimed_outer j v n = cond (nat_le j.outer n) (record (v.client) { outer_ended = true; outer_claims = v.client.outer_claims - 1 }) (claimed_rows v.client (j.inner + n) (min 64 (j.outer - n)) 0)
+claimed_outer j v n = cond (nat_le j.outer n) (record (v.client) { outer_ended = true; outer_claims = v.client.outer_claims - 1 })
+    (claimed_rows v.client (j.inner + n) (min 64 (j.outer - n)) 0)
 
 -- what it knows after a push and a take that met the word they named
 abbrev pub pushed : HashView → ℕ → HashView
@@ -278,4 +287,5 @@ after j v (AddBatchSize k by) n = v.client
 after j v (ClearBatchSize k) n = v.client
 after j v (StoreSizes bar w) n = record (v.client) { known = None; stored = stored_more (phase_of v.attached bar) v.client.stored bar }
 after j v Draw n = v.client
-after j v (AddResults row pairs) n = record (dropped v.client row) { probed = record { row = row; pairs = partners j row (passed_of v.client.walk) } ∷ v.client.probed }
+after j v (AddResults row pairs) n =
+    record (dropped v.client row) { probed = record { row = row; pairs = partners j row (passed_of v.client.walk) } ∷ v.client.probed }

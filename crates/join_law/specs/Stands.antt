@@ -60,7 +60,8 @@ pub record Linked (j : Join) (words nexts : List ℕ) (lists : List (List ℕ)) 
 
 -- What a seat stored into the next word of a row in its hand is there
 pub record NextStored (nexts : List ℕ) (views : List View) : Type 0 where
-  pub stored : (id : ℕ) (v : View) → There views id v → (r x : ℕ) → v.client.linked ≡ Some (r, x) → (1 ≤ times r v.client.hand) × (get_or nexts r 0 ≡ x)
+  pub stored : (id : ℕ) (v : View) → There views id v → (r x : ℕ) → v.client.linked ≡ Some (r, x)
+      → (1 ≤ times r v.client.hand) × (get_or nexts r 0 ≡ x)
 
 -- Rows in lists, and the row whose hash a seat knows, have their key's hash in their hash word
 abbrev pub HashIs : Join → List ℕ → ℕ → Type 0
@@ -70,7 +71,7 @@ pub record Hashes (j : Join) (hashes : List ℕ) (lists : List (List ℕ)) (view
   pub listed : (h r : ℕ) → Listed lists h r → HashIs j hashes r
   pub known : (id : ℕ) (v : View) → There views id v → (r : ℕ) → v.client.hashed ≡ Some r → HashIs j hashes r
 
--- An inner row in a list stands in its chain (of batch 0, or from RUN on), in its store (of another batch, below PROBE), or, while a growth is under way, where the sizes before it say
+-- An inner row in a list stands in its chain (of batch 0, or from RUN on), in its store (of another batch, before PROBE), or where sizes before a growth say
 abbrev pub InChain : Join → SizesOf → List ℕ → ℕ → ℕ → Type 0
 InChain j z phases h x = (h ≡ chain_at j z x) × ((batch_of z x ≡ 0) ⊎ (RUN ≤ now phases build))
 
@@ -85,20 +86,24 @@ InnerStands j z growth phases h x = InChain j z phases h x ⊎ (InStore j z phas
 
 -- an outer row stands in the outer store of its batch, from HASH_OUTER to RUN and below SCAN
 abbrev pub OuterStands : Join → SizesOf → List ℕ → ℕ → ℕ → Type 0
-OuterStands j z phases h x = (h ≡ outer_at j z x) × (HASH_OUTER ≤ now phases build) × (now phases build ≤ RUN) × (now phases (batch_bar (batch_of z x)) < SCAN)
+OuterStands j z phases h x = (h ≡ outer_at j z x) × (HASH_OUTER ≤ now phases build) × (now phases build ≤ RUN)
+    × (now phases (batch_bar (batch_of z x)) < SCAN)
 
 abbrev pub StandsWhereRouted : Join → SizesOf → Option (ℕ × ℕ) → List ℕ → ℕ → ℕ → Type 0
-StandsWhereRouted j z growth phases h r = (x : ℕ) × (j.hash r ≡ Some x) × (r < j.inner → InnerStands j z growth phases h x) × (j.inner ≤ r → OuterStands j z phases h x)
+StandsWhereRouted j z growth phases h r = (x : ℕ) × (j.hash r ≡ Some x)
+    × (r < j.inner → InnerStands j z growth phases h x) × (j.inner ≤ r → OuterStands j z phases h x)
 
 pub record Routes (j : Join) (z : SizesOf) (growth : Option (ℕ × ℕ)) (phases : List ℕ) (lists : List (List ℕ)) : Type 0 where
   pub stands : (h r : ℕ) → Listed lists h r → StandsWhereRouted j z growth phases h r
 
 -- Who has a row in hand works where it came to hand
 abbrev pub InnerHand : Join → SizesOf → List ℕ → View → ℕ → Type 0
-InnerHand j z phases v r = On phases v build HASH_INNER ⊎ ((x : ℕ) × (j.hash r ≡ Some x) × On phases v build RUN × On phases v (batch_bar (batch_of z x)) LOAD)
+InnerHand j z phases v r = On phases v build HASH_INNER
+    ⊎ ((x : ℕ) × (j.hash r ≡ Some x) × On phases v build RUN × On phases v (batch_bar (batch_of z x)) LOAD)
 
 abbrev pub OuterHand : Join → SizesOf → List ℕ → View → ℕ → Type 0
-OuterHand j z phases v r = On phases v build HASH_OUTER ⊎ ((x : ℕ) × (j.hash r ≡ Some x) × On phases v build RUN × On phases v (batch_bar (batch_of z x)) PROBE)
+OuterHand j z phases v r = On phases v build HASH_OUTER
+    ⊎ ((x : ℕ) × (j.hash r ≡ Some x) × On phases v build RUN × On phases v (batch_bar (batch_of z x)) PROBE)
 
 pub record Hands (j : Join) (z : SizesOf) (phases : List ℕ) (views : List View) : Type 0 where
   pub inner : (id : ℕ) (v : View) → There views id v → (r : ℕ) → 1 ≤ times r v.client.hand → r < j.inner → InnerHand j z phases v r
@@ -110,8 +115,10 @@ meeting j o i = cond (j.meets o i) 1 0
 
 pub record Gone (j : Join) (views : List View) : Type 0 where
   pub aside : (id : ℕ) (v : View) → There views id v → (r : ℕ) → 1 ≤ times r v.client.aside → j.hash r ≡ None
-  pub given : (id : ℕ) (v : View) → There views id v → (r : ℕ) → 1 ≤ times r v.client.given → (j.inner ≤ r) × ((x : ℕ) × (j.hash r ≡ Some x))
-  pub probed : (id : ℕ) (v : View) → There views id v → (k : ℕ) (p : Probed) → get_elem? v.client.probed k ≡ maybe.some p → (j.inner ≤ p.row) × ((x : ℕ) × (j.hash p.row ≡ Some x)) × ((i : ℕ) → times i p.pairs ≡ meeting j p.row i)
+  pub given : (id : ℕ) (v : View) → There views id v → (r : ℕ) → 1 ≤ times r v.client.given
+      → (j.inner ≤ r) × ((x : ℕ) × (j.hash r ≡ Some x))
+  pub probed : (id : ℕ) (v : View) → There views id v → (k : ℕ) (p : Probed) → get_elem? v.client.probed k ≡ maybe.some p
+      → (j.inner ≤ p.row) × ((x : ℕ) × (j.hash p.row ≡ Some x)) × ((i : ℕ) → times i p.pairs ≡ meeting j p.row i)
 
 -- The result count is the number of pairs of the rows probed
 pub record Counted (results : ℕ) (views : List View) : Type 0 where
@@ -128,22 +135,26 @@ pub record Cursors (j : Join) (inner_at outer_at : ℕ) (phases : List ℕ) (vie
   pub inner : CursorFits j.inner inner_at HASH_OUTER inner_ended inner_claims phases views
   pub outer : CursorFits j.outer outer_at RUN outer_ended outer_claims phases views
 
--- Who is on a growth barrier is on build at HASH_INNER, and who is on a batch is on build at RUN. A growth barrier past ELECT has a seat attached. Before RUN no batch was begun
+-- Who is on a growth is on the build at HASH_INNER, who is on a batch is on it at RUN. A growth past ELECT has a seat attached. Before RUN no batch was begun
 abbrev pub on_bar : ℕ → View → ℕ
 on_bar bar v = one_if (phase_of v.attached bar)
 
 pub record AttachedInside (j : Join) (phases : List ℕ) (views : List View) : Type 0 where
   pub grows : (id : ℕ) (v : View) → There views id v → (bar ph : ℕ) → IsGrowth bar → phase_of v.attached bar ≡ Some ph → j.grows ≡ true
-  pub growths : (id : ℕ) (v : View) → There views id v → (bar ph : ℕ) → IsGrowth bar → phase_of v.attached bar ≡ Some ph → On phases v build HASH_INNER
+  pub growths : (id : ℕ) (v : View) → There views id v → (bar ph : ℕ) → IsGrowth bar → phase_of v.attached bar ≡ Some ph
+      → On phases v build HASH_INNER
   pub batches : (id : ℕ) (v : View) → There views id v → (b ph : ℕ) → phase_of v.attached (batch_bar b) ≡ Some ph → On phases v build RUN
   pub manned : (bar : ℕ) → IsGrowth bar → 1 ≤ growth_phase bar (now phases bar) → 1 ≤ total (on_bar bar) views
   pub unbegun : now phases build < RUN → (b : ℕ) → now phases (batch_bar b) ≡ 0
 
 -- Stores that a seat saw at their end, and batches that it found done
 pub record Seen (z : SizesOf) (j : Join) (phases : List ℕ) (lists : List (List ℕ)) (views : List View) : Type 0 where
-  pub emptied : (id : ℕ) (v : View) → There views id v → (b : ℕ) → 1 ≤ times b v.client.emptied → (RUN ≤ now phases build) × (LOAD ≤ now phases (batch_bar b)) × (at_head lists (store_no j z.half b) ≡ [])
-  pub drained : (id : ℕ) (v : View) → There views id v → (b : ℕ) → 1 ≤ times b v.client.drained → (RUN ≤ now phases build) × (PROBE ≤ now phases (batch_bar b)) × (at_head lists (outer_no j b) ≡ [])
-  pub done : (id : ℕ) (v : View) → There views id v → (b : ℕ) → 1 ≤ times b v.client.done → (RUN ≤ now phases build) × (SCAN ≤ now phases (batch_bar b))
+  pub emptied : (id : ℕ) (v : View) → There views id v → (b : ℕ) → 1 ≤ times b v.client.emptied
+      → (RUN ≤ now phases build) × (LOAD ≤ now phases (batch_bar b)) × (at_head lists (store_no j z.half b) ≡ [])
+  pub drained : (id : ℕ) (v : View) → There views id v → (b : ℕ) → 1 ≤ times b v.client.drained
+      → (RUN ≤ now phases build) × (PROBE ≤ now phases (batch_bar b)) × (at_head lists (outer_no j b) ≡ [])
+  pub done : (id : ℕ) (v : View) → There views id v → (b : ℕ) → 1 ≤ times b v.client.done
+      → (RUN ≤ now phases build) × (SCAN ≤ now phases (batch_bar b))
   pub late : (id : ℕ) (v : View) → There views id v → v.client.late ≡ true → FREE ≤ now phases build
 
 -- A row that is being taken is the first of its list, and its next word is what was read, or it is gone from there
@@ -184,7 +195,7 @@ pub record WalkFits (j : Join) (z : SizesOf) (phases nexts : List ℕ) (lists : 
 pub record Walks (j : Join) (z : SizesOf) (phases nexts : List ℕ) (lists : List (List ℕ)) (views : List View) : Type 0 where
   pub fits : (id : ℕ) (v : View) → There views id v → (w : Walk) → v.client.walk ≡ Some w → WalkFits j z phases nexts lists v.client.hand w
 
--- A seat's sizes are in force: for good once settled, else as long as both growth barriers are in the phases at which they were read, and no new ones were stored in these
+-- A seat's sizes are in force: for good once settled, else while both growths are in the phases at which they were read and no new ones were stored in these
 abbrev pub Settled : Join → List ℕ → Type 0
 Settled j phases = (j.grows ≡ false) ⊎ (HASH_OUTER ≤ now phases build)
 
@@ -194,21 +205,25 @@ NotStored growth bar ph = growth ≡ Some (bar, ph) → ⊥
 pub record KnownFits (j : Join) (sizes : ℕ) (growth : Option (ℕ × ℕ)) (phases : List ℕ) (k : Known) : Type 0 where
   pub settled : k.settled ≡ true → (Settled j phases) × (sizes ≡ k.word)
   pub read : k.settled ≡ false → (k.batch_growth ≤ now phases batch_growth) × (k.bucket_growth ≤ now phases bucket_growth)
-      × (now phases batch_growth ≡ k.batch_growth → now phases bucket_growth ≡ k.bucket_growth → NotStored growth batch_growth k.batch_growth → NotStored growth bucket_growth k.bucket_growth → sizes ≡ k.word)
+      × (now phases batch_growth ≡ k.batch_growth → now phases bucket_growth ≡ k.bucket_growth → NotStored growth batch_growth k.batch_growth
+      → NotStored growth bucket_growth k.bucket_growth → sizes ≡ k.word)
 
 pub record SizesKnown (j : Join) (sizes : ℕ) (growth : Option (ℕ × ℕ)) (phases : List ℕ) (views : List View) : Type 0 where
   pub fits : (id : ℕ) (v : View) → There views id v → (k : Known) → v.client.known ≡ Some k → KnownFits j sizes growth phases k
 
--- The last new sizes were stored at a REALLOCATE that isn't to come, by a seat elected for it. While that growth is under way no other is, and the heads that a seat swept in the phase that stands are empty
+-- The last new sizes were stored at a REALLOCATE that isn't to come, by a seat elected for it. The heads that a seat swept in the phase that stands are empty
 abbrev pub StoredBy : List View → ℕ → ℕ → Type 0
 StoredBy views bar ph = (id : ℕ) × (v : View) × (There views id v) × (Elected v.client.stored bar ph)
 
 pub record Growth (j : Join) (z : SizesOf) (growth : Option (ℕ × ℕ)) (phases : List ℕ) (lists : List (List ℕ)) (views : List View) : Type 0 where
-  pub last : (bar ph : ℕ) → growth ≡ Some (bar, ph) → IsGrowth bar × (growth_phase bar ph ≡ REALLOCATE) × (ph ≤ now phases bar) × (now phases bar ≤ suc ph → SizesFit j (before_growth j bar z)) × StoredBy views bar ph
+  pub last : (bar ph : ℕ) → growth ≡ Some (bar, ph) → IsGrowth bar × (growth_phase bar ph ≡ REALLOCATE) × (ph ≤ now phases bar)
+      × (now phases bar ≤ suc ph → SizesFit j (before_growth j bar z)) × StoredBy views bar ph
   pub fixed : j.grows ≡ false → growth ≡ None
   pub stored : (id : ℕ) (v : View) → There views id v → (bar ph : ℕ) → Elected v.client.stored bar ph → Elected v.elections bar ph
-  pub swept : (id : ℕ) (v : View) → There views id v → (s : Swept) → v.client.swept ≡ Some s → IsGrowth s.bar × (growth_phase s.bar s.phase ≡ REINSERT) × (s.phase ≤ now phases s.bar)
-      × (now phases s.bar ≡ s.phase → s.heads ≤ old_heads (before_growth j s.bar z)) × (now phases s.bar ≡ s.phase → (k : ℕ) → k < s.heads → at_head lists (old_head j (before_growth j s.bar z) k) ≡ [])
+  pub swept : (id : ℕ) (v : View) → There views id v → (s : Swept) → v.client.swept ≡ Some s
+      → IsGrowth s.bar × (growth_phase s.bar s.phase ≡ REINSERT) × (s.phase ≤ now phases s.bar)
+      × (now phases s.bar ≡ s.phase → s.heads ≤ old_heads (before_growth j s.bar z))
+      × (now phases s.bar ≡ s.phase → (k : ℕ) → k < s.heads → at_head lists (old_head j (before_growth j s.bar z) k) ≡ [])
 
 -- A view without a number is what is left of a seat that was joined into another
 pub record LeftOver (views : List View) : Type 0 where
