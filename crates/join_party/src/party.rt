@@ -136,7 +136,7 @@ impl<'r> Party for HashParty<'r> {
     ghost use Rattle.join_law.specs.Quiet.{Quiet, Passes, Enters, Stays};
     ghost use Rattle.join_law.specs.Stands.{Stands};
     ghost use Rattle.join_party.specs.Joins.{join};
-    ghost use Rattle.join_party.specs.Laws as laws;
+    ghost use Rattle.join_law.proofs.Laws as laws;
 
     ghost word_count = { λ p. word_count (join p) };
 
@@ -172,15 +172,15 @@ impl<'r> Party for HashParty<'r> {
 
     ghost join_keeps = { λ p. laws.join_keeps (join p) };
 
-    ghost enter_keeps = { λ p. laws.enter_keeps (join p) };
+    ghost enter_keeps = { λ p words views phases id v w bar h s enters. laws.enter_keeps (join p) words views phases h id v w bar s enters };
 
-    ghost notice_keeps = { λ p words views phases id v w bar ph h s q. laws.notice_keeps (join p) words views phases id v w bar ph h s };
+    ghost notice_keeps = { λ p words views phases id v w bar ph h s quiet. laws.notice_keeps (join p) words views phases h id v w bar ph s };
 
-    ghost elect_keeps = { λ p. laws.elect_keeps (join p) };
+    ghost elect_keeps = { λ p words views phases id v bar ph h s. laws.elect_keeps (join p) words views phases h id v bar ph s };
 
-    ghost pass_keeps = { λ p words views phases bar id v h s may. laws.pass_keeps (join p) words views phases bar id v h s };
+    ghost pass_keeps = { λ p words views phases bar id v h s passes. laws.pass_keeps (join p) words views phases h bar id v s };
 
-    ghost leave_keeps = { λ p. laws.leave_keeps (join p) };
+    ghost leave_keeps = { λ p words views phases id v w bar ph h s quiet. laws.leave_keeps (join p) words views phases h id v w bar ph s quiet };
 
     fn words(&self) -> u32 {
         self.word_total()
