@@ -12,15 +12,15 @@ use Rattle.wait_core.specs.Parties.{phase_of, now, Reattached, IsEnter, IsNotice
 use Rattle.join_law.specs.Layout.{Join, Memory, SizesOf, sizes_of}
 use Rattle.join_law.specs.Routes.{batch_of}
 use Rattle.join_law.specs.Phases.{On, batch_bar, growth_phase, HASH_INNER, HASH_OUTER, RUN, LOAD, PROBE}
-use Rattle.join_law.specs.Quiet.{Quiet, Enters, Stays, bar_quiet}
+use Rattle.join_law.specs.Quiet.{Quiet, Enters, Stays, QuietAt}
 use Rattle.join_law.specs.Machine.{At}
-use Rattle.join_law.specs.Views.{V}
+use Rattle.join_law.specs.Views.{View}
 use Rattle.join_law.specs.Stands.{There, on_bar, Parts}
 use Rattle.join_law.proofs.Views.{attached_still, stored_still, count_still, growth_still}
 use Rattle.join_law.proofs.Cursors.{cursors_still}
 use Rattle.join_law.proofs.ClientMoves.{knows_of, place_still}
 
-module _ (j : Join) (m : Memory) (lists : List (List ℕ)) (growth : Option (ℕ × ℕ)) (views : List V) (phases : List ℕ) (p : Parts j m lists growth views phases) (id : ℕ) (v : V) (at : There views id v) where
+module _ (j : Join) (m : Memory) (lists : List (List ℕ)) (growth : Option (ℕ × ℕ)) (views : List View) (phases : List ℕ) (p : Parts j m lists growth views phases) (id : ℕ) (v : View) (at : There views id v) where
   abbrev z : SizesOf
   z = sizes_of m.sizes
 
@@ -33,7 +33,7 @@ module _ (j : Join) (m : Memory) (lists : List (List ℕ)) (growth : Option (ℕ
       → ((bar : ℕ) → (bar ≡ 1) ⊎ (bar ≡ 2) → 1 ≤ growth_phase bar (now phases bar) → 1 ≤ total (on_bar bar) (set views id (record v { attached = a })))
       → Parts j m lists growth (set views id (record v { attached = a })) phases
   attached_moves a hand grows growths batches manned =
-      let w : V = record v { attached = a } in
+      let w : View = record v { attached = a } in
       let k = knows_of j m lists growth views phases p id v at in
       record {
         laid = p.laid;
@@ -67,20 +67,20 @@ module _ (j : Join) (m : Memory) (lists : List (List ℕ)) (growth : Option (ℕ
       }
 
   -- the view that only differs in its attachments
-  reattached : (w : V) (bar : ℕ) (o : Option ℕ) → Reattached v w bar o → record v { attached = w.attached } ≡ w
+  reattached : (w : View) (bar : ℕ) (o : Option ℕ) → Reattached v w bar o → record v { attached = w.attached } ≡ w
   reattached w bar o r = λ i. record { client = sym r.client i; proc = sym r.proc i; attached = w.attached; elections = sym r.elections i }
 
-  pub attached_to : (w : V) (bar : ℕ) (o : Option ℕ) → Reattached v w bar o → Parts j m lists growth (set views id (record v { attached = w.attached })) phases → Parts j m lists growth (set views id w) phases
-  attached_to w bar o r = subst (λ (u : V). Parts j m lists growth (set views id u) phases) (reattached w bar o r)
+  pub attached_to : (w : View) (bar : ℕ) (o : Option ℕ) → Reattached v w bar o → Parts j m lists growth (set views id (record v { attached = w.attached })) phases → Parts j m lists growth (set views id w) phases
+  attached_to w bar o r = subst (λ (u : View). Parts j m lists growth (set views id u) phases) (reattached w bar o r)
 
   -- as many seats are on a barrier, or more
-  still_manned : (bar : ℕ) (w : V) → on_bar bar v ≤ on_bar bar w → 1 ≤ total (on_bar bar) views → 1 ≤ total (on_bar bar) (set views id w)
+  still_manned : (bar : ℕ) (w : View) → on_bar bar v ≤ on_bar bar w → 1 ≤ total (on_bar bar) views → 1 ≤ total (on_bar bar) (set views id w)
   still_manned bar w more some = let t = total_set (on_bar bar) views id v w at in omega arith
 
-  on_some : (u : V) (bar ph : ℕ) → phase_of u.attached bar ≡ Some ph → on_bar bar u ≡ 1
+  on_some : (u : View) (bar ph : ℕ) → phase_of u.attached bar ≡ Some ph → on_bar bar u ≡ 1
   on_some u bar ph e = ap one_if e
 
-  on_most : (u : V) (bar : ℕ) → on_bar bar u ≤ 1
+  on_most : (u : View) (bar : ℕ) → on_bar bar u ≤ 1
   on_most u bar = most (phase_of u.attached bar)
     where
       most : (o : Option ℕ) → one_if o ≤ 1
@@ -88,7 +88,7 @@ module _ (j : Join) (m : Memory) (lists : List (List ℕ)) (growth : Option (ℕ
       most (Some n) = omega arith
 
 -- ATTACHES
-pub enter_keeps : (j : Join) (m : Memory) (lists : List (List ℕ)) (growth : Option (ℕ × ℕ)) (views : List V) (phases : List ℕ) → Parts j m lists growth views phases → (id : ℕ) (v w : V) (bar : ℕ) → IsEnter views phases id v w bar → Enters j v bar
+pub enter_keeps : (j : Join) (m : Memory) (lists : List (List ℕ)) (growth : Option (ℕ × ℕ)) (views : List View) (phases : List ℕ) → Parts j m lists growth views phases → (id : ℕ) (v w : View) (bar : ℕ) → IsEnter views phases id v w bar → Enters j v bar
     → Parts j m lists growth (set views id w) phases
 enter_keeps j m lists growth views phases p id v w bar s enters =
     let r = s.after in
@@ -116,7 +116,7 @@ enter_keeps j m lists growth views phases p id v w bar s enters =
         (λ other. let e : one_if (phase_of w.attached b) ≡ one_if (phase_of v.attached b) = ap one_if ((s.after).elsewhere b other) in omega arith)
 
 -- WAITS, NOTICES: the same barriers, at one of them perhaps a phase further
-moves_on : (j : Join) (m : Memory) (lists : List (List ℕ)) (growth : Option (ℕ × ℕ)) (views : List V) (phases : List ℕ) → Parts j m lists growth views phases → (id : ℕ) (v w : V) (bar ph to : ℕ) → There views id v → phase_of v.attached bar ≡ Some ph → Reattached v w bar (Some to)
+moves_on : (j : Join) (m : Memory) (lists : List (List ℕ)) (growth : Option (ℕ × ℕ)) (views : List View) (phases : List ℕ) → Parts j m lists growth views phases → (id : ℕ) (v w : View) (bar ph to : ℕ) → There views id v → phase_of v.attached bar ≡ Some ph → Reattached v w bar (Some to)
     → ((ph ≡ to) ⊎ (now phases bar ≢ ph)) → Parts j m lists growth (set views id w) phases
 moves_on j m lists growth views phases p id v w bar ph to at on r way =
     let keeps : (b q : ℕ) → On phases v b q → phase_of w.attached b ≡ Some q = λ b q o. dite (ℕ_discrete b bar)
@@ -139,20 +139,20 @@ moves_on j m lists growth views phases p id v w bar ph to at on r way =
         (λ same. let a : one_if (phase_of w.attached b) ≡ 1 = ap one_if (subst (λ (c : ℕ). phase_of w.attached c ≡ Some to) (sym same) r.there) in let c : one_if (phase_of v.attached b) ≡ 1 = ap one_if (subst (λ (c : ℕ). phase_of v.attached c ≡ Some ph) (sym same) on) in omega arith)
         (λ other. let e : one_if (phase_of w.attached b) ≡ one_if (phase_of v.attached b) = ap one_if (r.elsewhere b other) in omega arith)
 
-pub notice_keeps : (j : Join) (m : Memory) (lists : List (List ℕ)) (growth : Option (ℕ × ℕ)) (views : List V) (phases : List ℕ) → Parts j m lists growth views phases → (id : ℕ) (v w : V) (bar ph : ℕ) → IsNotice views phases id v w bar ph → Parts j m lists growth (set views id w) phases
+pub notice_keeps : (j : Join) (m : Memory) (lists : List (List ℕ)) (growth : Option (ℕ × ℕ)) (views : List View) (phases : List ℕ) → Parts j m lists growth views phases → (id : ℕ) (v w : View) (bar ph : ℕ) → IsNotice views phases id v w bar ph → Parts j m lists growth (set views id w) phases
 notice_keeps j m lists growth views phases p id v w bar ph s = moves_on j m lists growth views phases p id v w bar ph (suc ph) s.at s.attached s.after (inr (λ e. let q = s.passed in omega arith))
 
 -- DETACHES
-pub leave_keeps : (j : Join) (m : Memory) (lists : List (List ℕ)) (growth : Option (ℕ × ℕ)) (views : List V) (phases : List ℕ) → Parts j m lists growth views phases → (id : ℕ) (v w : V) (bar ph : ℕ) → IsLeave Stays views phases id v w bar ph → Quiet j v bar ph
+pub leave_keeps : (j : Join) (m : Memory) (lists : List (List ℕ)) (growth : Option (ℕ × ℕ)) (views : List View) (phases : List ℕ) → Parts j m lists growth views phases → (id : ℕ) (v w : View) (bar ph : ℕ) → IsLeave Stays views phases id v w bar ph → Quiet j v bar ph
     → Parts j m lists growth (set views id w) phases
 leave_keeps j m lists growth views phases p id v w bar ph s q =
     let r = s.after in
     let before : (b x : ℕ) → phase_of w.attached b ≡ Some x → (b ≢ bar) × (phase_of v.attached b ≡ Some x) = λ b x e. dite (ℕ_discrete b bar)
     (λ same. absurd (none-some x (sym r.there ∙ subst (λ (c : ℕ). phase_of w.attached c ≡ Some x) same e))) (λ other. (other, sym (r.elsewhere b other) ∙ e)) in
     -- who leaves build is on no growth barrier and on no batch
-    let build_left : (x : ℕ) → 0 ≡ bar → phase_of v.attached 0 ≡ Some x → bar_quiet j v 0 x = λ x same on.
+    let build_left : (x : ℕ) → 0 ≡ bar → phase_of v.attached 0 ≡ Some x → QuietAt j v 0 x = λ x same on.
     let same_ph : x ≡ ph = same_Some x ph (sym on ∙ subst (λ (c : ℕ). phase_of v.attached c ≡ Some ph) (sym same) s.attached) in
-    subst (λ (c : ℕ). bar_quiet j v c x) (sym same) (subst (bar_quiet j v bar) (sym same_ph) q.1) in
+    subst (λ (c : ℕ). QuietAt j v c x) (sym same) (subst (QuietAt j v bar) (sym same_ph) q.1) in
     attached_to j m lists growth views phases p id v s.at w bar None r (attached_moves j m lists growth views phases p id v s.at w.attached
     (λ x more b c on. let none : times x v.client.hand ≡ 0 = ap (times x) q.0 in absurd (omega arith))
     (λ b x is e. let o = before b x e in p.attached.grows id v s.at b x is o.1)
@@ -174,9 +174,9 @@ leave_keeps j m lists growth views phases p id v w bar ph s q =
         (λ two. subst (λ (c : ℕ). Stays c (now phases c)) (sym two) (subst (λ (c : ℕ). 1 ≤ growth_phase c (now phases c)) two past)) is
 
 -- GAINS AN ELECTION
-pub elect_keeps : (j : Join) (m : Memory) (lists : List (List ℕ)) (growth : Option (ℕ × ℕ)) (views : List V) (phases : List ℕ) → Parts j m lists growth views phases → (id : ℕ) (v : V) (bar ph : ℕ) → There views id v → Parts j m lists growth (set views id (elected v bar ph)) phases
+pub elect_keeps : (j : Join) (m : Memory) (lists : List (List ℕ)) (growth : Option (ℕ × ℕ)) (views : List View) (phases : List ℕ) → Parts j m lists growth views phases → (id : ℕ) (v : View) (bar ph : ℕ) → There views id v → Parts j m lists growth (set views id (elected v bar ph)) phases
 elect_keeps j m lists growth views phases p id v bar ph at =
-    let w : V = elected v bar ph in
+    let w : View = elected v bar ph in
     let k = knows_of j m lists growth views phases p id v at in
     record {
       laid = p.laid;

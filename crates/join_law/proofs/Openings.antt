@@ -10,7 +10,7 @@ use Rattle.seat_roster.specs.Roster.{times}
 use Rattle.wait_core.specs.Parties.{newcomer, now}
 use Rattle.wait_core.specs.Words.{opened}
 use Rattle.join_law.specs.Layout.{Join, Memory, sizes_of, size_word, first_sizes, opens, flat, rows, heads, word_count}
-use Rattle.join_law.specs.Views.{V, first_view, unclaimed, below}
+use Rattle.join_law.specs.Views.{View, first_view, unclaimed, below}
 use Rattle.join_law.specs.Phases.{batch_bar, growth_phase}
 use Rattle.join_law.specs.Stands.{at_head, Listed, There, RowsMeet, SizesFit, Parts, Stands}
 use Rattle.join_law.proofs.Seats.{draw_keeps}
@@ -41,7 +41,7 @@ module _ (j : Join) (meet : RowsMeet j) (fit : SizesFit j (first_sizes j)) where
   abbrev lists : List (List ℕ)
   lists = replicate (heads j) []
 
-  nobody : (id : ℕ) (v : V) → There [] id v → ⊥
+  nobody : (id : ℕ) (v : View) → There [] id v → ⊥
   nobody id v e = maybe.some-ne-none v (sym e)
 
   none_at : (h : ℕ) → at_head lists h ≡ []

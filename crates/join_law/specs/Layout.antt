@@ -3,22 +3,26 @@ use Rattle.std.specs.Prelude.{◌≡◌, ℕ, ◌+◌, ◌*◌, ◌/◌, ◌%◌
 use Rattle.join_law.specs.declared.step.Word.{Word}
 use Rattle.join_law.specs.declared.step.Word.TheVariants.{Sizes, InnerCursor, OuterCursor, Distributor, Results, BatchSize, Head, Next, Hash}
 
--- What a join is of: rows in both tables, the hash of each row's key, which rows meet, how many chains there is room for in a half, the opening buckets and batches, the number of batches after the first growth of batches, and whether the sizes may grow at all
+-- What a join is of. The rows of both tables have one numbering, the inner rows first
 pub record Join : Type 0 where
   pub inner : ℕ
   pub outer : ℕ
+  -- the hash of each row's key, where it has one, and which outer row meets which inner row
   pub hash : ℕ → Option ℕ
   pub meets : ℕ → ℕ → Bool
+  -- how many chains there is room for in a half
   pub chains : ℕ
+  -- the opening sizes, and how many batches the first growth of batches brings
   pub buckets : ℕ
   pub batches : ℕ
   pub first_batches : ℕ
+  -- whether the sizes may grow at all
   pub grows : Bool
 
 abbrev pub rows : Join → ℕ
 rows j = j.inner + j.outer
 
--- heads: the chains of half 0 and of half 1, the inner stores of half 0 and of half 1, the outer stores
+-- the heads of the chains of half 0 and of half 1, of the inner stores of half 0 and of half 1, and of the outer stores. Growth moves rows to the other half
 abbrev pub heads : Join → ℕ
 heads j = 2 * j.chains + 192
 
@@ -31,7 +35,7 @@ store_no j half batch = 2 * j.chains + (half * 64 + batch)
 abbrev pub outer_no : Join → ℕ → ℕ
 outer_no j batch = 2 * j.chains + (128 + batch)
 
--- the sizes in force, packed into one word
+-- the sizes in force, which stand in one word, so that one load reads them all
 pub record SizesOf : Type 0 where
   pub half : ℕ
   pub buckets : ℕ
@@ -59,7 +63,7 @@ pub record Memory : Type 0 where
 abbrev pub apart : List ℕ → List ℕ
 apart words = 0 ∷ 0 ∷ 0 ∷ 0 ∷ 0 ∷ 0 ∷ 0 ∷ words
 
--- the words that all seats use, each on a line of its own; after them one word more, so that heads begin eight lines' words on
+-- the words that all seats use, each on a line of its own. One word more, and what follows begins at a multiple of eight
 abbrev pub hot : Memory → List ℕ → List ℕ
 hot m words = apart (m.sizes ∷ apart (m.inner_cursor ∷ apart (m.outer_cursor ∷ apart (m.distributor ∷ apart (m.results ∷ apart (0 ∷ words))))))
 
@@ -67,6 +71,7 @@ hot m words = apart (m.sizes ∷ apart (m.inner_cursor ∷ apart (m.outer_cursor
 abbrev pub flat : Memory → List ℕ
 flat m = hot m (m.batch_sizes ++ (m.heads ++ (m.nexts ++ m.hashes)))
 
+-- how long each stretch is: sizes of 64 batches in each half, heads, and two words for each row
 pub record Laid (j : Join) (m : Memory) : Type 0 where
   pub batch_sizes : length m.batch_sizes ≡ 128
   pub heads : length m.heads ≡ heads j
@@ -96,6 +101,7 @@ Inside j (Next r) = r < rows j
 Inside j (Hash r) = r < rows j
 Inside j _ = 0 < 1
 
+-- the word's value, and the memory with another value in it
 abbrev pub read : Memory → Word → ℕ
 read m Sizes = m.sizes
 read m InnerCursor = m.inner_cursor

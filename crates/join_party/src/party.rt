@@ -1,27 +1,32 @@
-//! The join as the client of its barriers.
+//! The join as the client of its barriers: which word each step is on, and what it does to it.
 ghost use Rattle.std.specs.Prelude.{◌≡◌, ◌≤◌, ◌<◌, ℕ, ◌+◌, ◌*◌, length, min};
 
 use join_law::{HashStep, HashView, Look, Source, Word};
 use row_model::{Rows, Side};
 use wait_core::{ClientOp, Party};
 
-/// A join of two tables: room for chains, the opening sizes, and whether they may grow.
+/// A join of two tables.
+#[derive(Drop)]
 pub struct HashParty<'r> {
     pub inner: &'r Rows,
     pub outer: &'r Rows,
+    /// How many chains there is room for in a half.
     pub chains: u32,
+    /// The sizes that it begins with.
     pub buckets: u32,
     pub batches: u32,
+    /// How many batches the first growth of batches brings.
     pub first_batches: u32,
+    /// Whether the sizes may grow at all.
     pub grows: bool,
     ghost few: { (length inner.now.rows + length outer.now.rows ≤ 1073741824) × (chains ≤ 524288) },
     ghost sizes: { (buckets ≤ 262144) × (batches ≤ 64) },
 }
 
-// The first of the heads: before them five words, each with a line of the cache to itself, and the sizes of batches.
+// Where the heads begin.
 const HEADS: u64 = 176;
 
-// A place as far as 32 bits go.
+// A place, as far as 32 bits go.
 fn clamp(place: u64) -> u32
     ensures { result ≡ min place 4294967295 }
 {
@@ -37,6 +42,7 @@ impl<'r> HashParty<'r> {
     ghost use Rattle.join_law.specs.Machine.{spot, source_head, looked_at};
     ghost use Rattle.join_party.specs.Joins.{join};
 
+    // How many heads, rows and words there are.
     fn heads(&self) -> u64
         ensures { result ≡ heads (join self.now) }
     {
@@ -56,12 +62,14 @@ impl<'r> HashParty<'r> {
         total as u32
     }
 
+    // The word of the opening sizes, in half 0.
     fn first_word(&self) -> u64
         ensures { result ≡ size_word (first_sizes (join self.now)) }
     {
         u64::from(self.buckets) * 256 + u64::from(self.batches) * 2
     }
 
+    // Where a word stands. Each of the first five has a line of a cache to itself.
     fn place(&self, word: Word) -> u64
         ensures { result ≡ place (join self.now) word }
     {
@@ -84,6 +92,7 @@ impl<'r> HashParty<'r> {
         clamp(self.place(word))
     }
 
+    // The head that a source names.
     fn source_head(&self, source: Source) -> u64
         ensures { result ≡ source_head (join self.now) source }
     {
@@ -99,6 +108,7 @@ impl<'r> HashParty<'r> {
         }
     }
 
+    // Where the word of a load stands.
     fn look_place(&self, look: Look) -> u64
         ensures { result ≡ place (join self.now) (looked_at (join self.now) look) }
     {
@@ -136,7 +146,7 @@ impl<'r> Party for HashParty<'r> {
     ghost use Rattle.join_law.specs.Quiet.{Quiet, Passes, Enters, Stays};
     ghost use Rattle.join_law.specs.Stands.{Stands};
     ghost use Rattle.join_party.specs.Joins.{join};
-    ghost use Rattle.join_party.specs.Laws as laws;
+    ghost use Rattle.join_law.proofs.Laws as laws;
 
     ghost word_count = { λ p. word_count (join p) };
 
@@ -172,15 +182,15 @@ impl<'r> Party for HashParty<'r> {
 
     ghost join_keeps = { λ p. laws.join_keeps (join p) };
 
-    ghost enter_keeps = { λ p. laws.enter_keeps (join p) };
+    ghost enter_keeps = { λ p words views phases id v w bar h s enters. laws.enter_keeps (join p) words views phases h id v w bar s enters };
 
-    ghost notice_keeps = { λ p words views phases id v w bar ph h s q. laws.notice_keeps (join p) words views phases id v w bar ph h s };
+    ghost notice_keeps = { λ p words views phases id v w bar ph h s quiet. laws.notice_keeps (join p) words views phases h id v w bar ph s };
 
-    ghost elect_keeps = { λ p. laws.elect_keeps (join p) };
+    ghost elect_keeps = { λ p words views phases id v bar ph h s. laws.elect_keeps (join p) words views phases h id v bar ph s };
 
-    ghost pass_keeps = { λ p words views phases bar id v h s may. laws.pass_keeps (join p) words views phases bar id v h s };
+    ghost pass_keeps = { λ p words views phases bar id v h s passes. laws.pass_keeps (join p) words views phases h bar id v s };
 
-    ghost leave_keeps = { λ p. laws.leave_keeps (join p) };
+    ghost leave_keeps = { λ p words views phases id v w bar ph h s quiet. laws.leave_keeps (join p) words views phases h id v w bar ph s quiet };
 
     fn words(&self) -> u32 {
         self.word_total()
