@@ -22,6 +22,7 @@ pub mod Answered
 pub mod Balance
 pub mod Markers
 pub mod Seats
+pub mod FramesStand
 pub mod WordsAreMade
 pub mod Beside
 pub mod StillAnswered
@@ -31,6 +32,7 @@ pub mod Watching
 pub mod Variable
 pub mod RuleKeeps
 pub mod InRuns
+pub mod GoesOn
 pub mod Exclusion
 pub mod NoLostWake
 pub mod Moves

@@ -318,14 +318,12 @@ module _ (z : Size) (words : List ℕ) (homes : Homes) (own : Option ℕ) (s : �
     where
       slept : (b : Option Call) (q : Place) → MayLook b q → at (looked true q) ≡ at q
       slept (Some c) [] e = refl
-      slept (Some c) (Looking ∷ q) e = refl
       slept None (Looking ∷ q) e = refl
       slept None (Asleep ∷ q) e = refl
       slept b q e = absurd e
 
       awake : (b : Option Call) (q : Place) → MayLook b q → ((at q).downing ≡ false) × (at (looked false q) ≡ record (at q) { downing = true })
       awake (Some c) [] e = (refl, refl)
-      awake (Some c) (Looking ∷ q) e = (refl, refl)
       awake None (Looking ∷ q) e = (refl, refl)
       awake None (Asleep ∷ q) e = (refl, refl)
       awake b q e = absurd e
@@ -491,8 +489,6 @@ module _ (own : Option ℕ) (s : ℕ) (poked downed : List ℕ) where
   hand_looked : (b : Option Call) (p : Place) → MayLook b p → (is_zero : Bool) → lock_in_hand (hand_at (looked is_zero p)) ≡ lock_in_hand (hand_at p)
   hand_looked (Some c) [] ok true = refl
   hand_looked (Some c) [] ok false = refl
-  hand_looked (Some c) (Looking ∷ q) ok true = refl
-  hand_looked (Some c) (Looking ∷ q) ok false = refl
   hand_looked None (Looking ∷ q) ok true = refl
   hand_looked None (Looking ∷ q) ok false = refl
   hand_looked None (Asleep ∷ q) ok true = refl
