@@ -17,37 +17,19 @@ use Rattle.lw_core.specs.declared.view.Waiter.{Waiter}
 use Rattle.lw_core.specs.declared.view.Want.{Want}
 use Rattle.lw_core.specs.declared.view.Want.TheVariants as want
 use Rattle.lw_core.specs.Words.{state_at, sem_at, waiting_at, is_free, grant_of, locked, has_flag}
-use Rattle.lw_core.specs.WaitLists.{AllBelow, same_want, taken_after, taken_from, until_free_from, home_list}
+use Rattle.lw_core.specs.WaitLists.{AllBelow, taken_from, home_list}
 use Rattle.lw_core.specs.Machine.{LwState, Place, top, outer, not_held, held, hold_in, number_of, lock_number, word_of, want_of, resumed, on_grant, on_waking, on_refusal, loaded, peeked, on_outcome, on_conflict, calls_for_wake, after_store, releasing, let_go, taking, in_hand, flagged, compared, published, stored, reread, telling, sent_home, detached, posted, surplus_posted, looked, answered, moved, gripped, poked_by, next, guard_hold, guard_becomes, IsInRange, BeginsTaking, BeginsAttempt, Allowed, after, LeavesLawful}
 use Rattle.lw_core.specs.SeatFits.{FollowsAttempt, PlaceFits}
 use Rattle.lw_core.specs.FramesStand.{MayLetGo, FrameStands, AllStand, FramesStand}
 use Rattle.lw_core.specs.Rule.{Rule}
 use Rattle.lw_core.specs.Runs.{drew_one, stays, comes, both, spent, drawn, split, joined}
+use Rattle.lw_core.proofs.Below.{taken_below, until_free_below}
 use Rattle.lw_core.proofs.Touches.{on_exchange, top_is, begun_release, poked_keeps}
 use Rattle.lw_core.proofs.Places as places
 
 either_of : {A : Type 0} (P : A → Type 0) (b : Bool) (x y : A) → P x → P y → P (cond b x y)
 either_of P true x y left right = left
 either_of P false x y left right = right
-
--- those whom a wake takes are of the list that it found, and so are those who wait until the lock is free
-below_head : (procs : ℕ) (some exclusive : Bool) (w : Waiter) (ws after others : List Waiter) → w.proc < procs → AllBelow procs after → AllBelow procs others → AllBelow procs (cond exclusive (cond some after (w ∷ [])) (w ∷ others))
-below_head procs true true w ws after others here below more = below
-below_head procs false true w ws after others here below more = (here, tt)
-below_head procs some false w ws after others here below more = (here, more)
-
-pub taken_below : (procs : ℕ) (some : Bool) (ws : List Waiter) → AllBelow procs ws → AllBelow procs (taken_after some ws)
-taken_below procs some [] below = below
-taken_below procs some (w ∷ ws) below = let next : Bool = cond (same_want w.want want.Shared) true some in
-    below_head procs some (same_want w.want want.Exclusive) w ws (taken_after some ws) (taken_after next ws) below.0 (taken_below procs some ws below.1) (taken_below procs next ws below.1)
-
-pub until_free_below : (procs : ℕ) (ws : List Waiter) → AllBelow procs ws → AllBelow procs (until_free_from ws)
-until_free_below procs [] below = below
-until_free_below procs (w ∷ ws) below = either_of (AllBelow procs) (same_want w.want want.UntilFree) (w ∷ until_free_from ws) [] (below.0, until_free_below procs ws below.1) tt
-
-pub behind_below : (procs : ℕ) (ws us : List Waiter) → AllBelow procs (ws ++ us) → AllBelow procs us
-behind_below procs [] us below = below
-behind_below procs (w ∷ ws) us below = behind_below procs ws us below.1
 
 module _ (lawful : ℕ → List ℕ → Type 0) (z : Size) (holds : List Hold) where
   abbrev S : Place → Type 0

@@ -16,7 +16,7 @@ use Rattle.lw_core.specs.SeatFits.{PlaceFits}
 use Rattle.lw_core.specs.FramesStand.{AllStand}
 use Rattle.lw_core.specs.Rule.{Rule}
 use Rattle.lw_core.specs.Promises.{EachCallGoesOn}
-use Rattle.lw_core.proofs.FramesStand.{taken_below, until_free_below, behind_below}
+use Rattle.lw_core.proofs.Below.{taken_below, until_free_below, behind_below}
 use Rattle.lw_core.proofs.Places as places
 use Rattle.lw_core.proofs.Seats.{numbered_as, own_inside}
 

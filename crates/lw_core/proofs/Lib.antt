@@ -1,4 +1,5 @@
 pub mod Lists
+pub mod Below
 pub mod Flags
 pub mod Touches
 pub mod Holders

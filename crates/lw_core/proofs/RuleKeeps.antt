@@ -13,7 +13,7 @@ use Rattle.lw_core.specs.declared.view.Size.{Size}
 use Rattle.lw_core.specs.declared.view.Waiter.{Waiter}
 use Rattle.seat_roster.specs.Totals.{total}
 use Rattle.lw_core.specs.Words.{Waiters, state_at, guard_at, waiting_at, sem_at, grant_of, locked, has_flag, guarded, word_count, Opens}
-use Rattle.lw_core.specs.WaitLists.{AllEmpty, IsUntilFreeFirst, times, times_with, home_of, home_list}
+use Rattle.lw_core.specs.WaitLists.{AllEmpty, IsUntilFreeFirst, times_on, times_with, home_of, home_list}
 use Rattle.lw_core.specs.Machine.{LwState, top, outer, not_held, held, hold_in, moved, gripped, on_grant, let_go, fresh, IsInRange, number_of, lock_number, mode_in, word_of, becomes, next, carried, act_of, takes_list, sends_home, as_waiters, left_at, Allowed, after, HoldsNothing, releasing, guard_hold, guard_becomes, guard_writes}
 use Rattle.lw_core.specs.Stances.{Stance, hand_list, home_times, own_amount, downing_at, stance_of}
 use Rattle.lw_core.specs.SeatFits.{Seating, SeatFits}
@@ -277,7 +277,7 @@ module _ (lawful : ℕ → List ℕ → Type 0) (z : Size) where
 
     none_listed : (xs : List Waiters) (p : ℕ) → AllEmpty xs → total (home_times p) (map maybe.some xs) ≡ 0
     none_listed [] p e = refl
-    none_listed (x ∷ xs) p e = let a = none_listed xs p e.1 in let b : times p x.items ≡ 0 = ap (times p) e.0 in omega arith
+    none_listed (x ∷ xs) p e = let a = none_listed xs p e.1 in let b : times_on p x.items ≡ 0 = ap (times_on p) e.0 in omega arith
 
     one_seat : (id : ℕ) (v : Stance) → get_elem? (start ∷ []) id ≡ maybe.some v → start ≡ v
     one_seat zero v e = maybe.some-injective start v e
@@ -318,7 +318,7 @@ module _ (lawful : ℕ → List ℕ → Type 0) (z : Size) where
         there = λ p below. omega arith;
       };
       markers = record {
-        posts = λ id v e p. subst (λ (u : Stance). times p u.unlisted ≤ times p u.owed) (one_seat id v e) (omega arith);
+        posts = λ id v e p. subst (λ (u : Stance). times_on p u.unlisted ≤ times_on p u.owed) (one_seat id v e) (omega arith);
         poked = λ p below. let b = no_amount p in omega arith;
       };
       free = free_opens z words lists (Some 0);
