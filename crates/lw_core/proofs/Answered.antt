@@ -13,9 +13,9 @@ use Rattle.lw_core.specs.declared.view.Want.{Want}
 use Rattle.lw_core.specs.declared.view.Want.TheVariants.{UntilFree}
 use Rattle.lw_core.specs.declared.view.Waiter.{Waiter}
 use Rattle.lw_core.specs.Words.{Waiters, state_at, word_count, release_ok, has_waiters, locked, has_flag, set_flag, clear_flag}
-use Rattle.lw_core.specs.WaitLists.{waiter, same_want, times, times_with, without, taken_from, kept_from, lockers_from, has_locker, is_empty}
+use Rattle.lw_core.specs.WaitLists.{waiter, same_want, times_on, times_with, without, taken_from, kept_from, lockers_from, has_locker, is_empty}
 use Rattle.lw_core.specs.Machine.{woken_word}
-use Rattle.lw_core.specs.Stances.{Stance, Hand, hand_of, hand_list, hand_with, hand_times, entry_is, is_own, listed, may_be_listed}
+use Rattle.lw_core.specs.Stances.{Stance, Hand, hand_of, hand_list, hand_with, hand_times, entry_is, is_own, on_lists, may_be_listed}
 use Rattle.lw_core.specs.ListedOnce.{ListedOnce}
 use Rattle.lw_core.specs.ReleaseOkIsOwed.{Answers, ReleaseOkIsOwed}
 use Rattle.lw_core.proofs.Storing.{KeepsFlag, flag_kept, still_keeps}
@@ -49,7 +49,7 @@ module _ (seats : List Stance) (id : ℕ) (v : Stance) (at : get_elem? seats id 
   found_here j u there is = maybe.some-injective u v (sym there ∙ (ap (get_elem? seats) is ∙ at))
 
   -- another seat answers as before, once its number is on no list; and so does any where this one's number stays, and what is due
-  module _ (after : Homes) (w : Stance) (l j p : ℕ) (u : Stance) (there : get_elem? seats j ≡ maybe.some u) (own : u.own ≡ Some p) (due : u.due ≡ Some l) (off : listed p after (set seats id w) ≡ 0) where
+  module _ (after : Homes) (w : Stance) (l j p : ℕ) (u : Stance) (there : get_elem? seats j ≡ maybe.some u) (own : u.own ≡ Some p) (due : u.due ≡ Some l) (off : on_lists p after (set seats id w) ≡ 0) where
     pub elsewhere : j ≢ id → Answers l after (set seats id w)
     elsewhere ne = record { id = j; seat = u; proc = p; at = set_else seats id j w ne ∙ there; own = own; due = due; off = off }
 
@@ -83,31 +83,31 @@ module _ (z : Size) (words : List ℕ) (homes : Homes) (seats : List Stance) (lo
 
   module _ (id : ℕ) (v : Stance) (at : get_elem? seats id ≡ maybe.some v) where
     -- nobody is listed more where no list moves
-    no_more : (after : Homes) (w : Stance) → after ≡ homes → ((p : ℕ) → hand_times p w ≡ hand_times p v) → (p : ℕ) → listed p after (set seats id w) ≤ listed p homes seats
+    no_more : (after : Homes) (w : Stance) → after ≡ homes → ((p : ℕ) → hand_times p w ≡ hand_times p v) → (p : ℕ) → on_lists p after (set seats id w) ≤ on_lists p homes seats
     no_more after w there hand p = let lists = listed_same homes seats id v w at p (hand p) in
-        let same : listed p after (set seats id w) ≡ listed p homes (set seats id w) = ap (λ (h : Homes). listed p h (set seats id w)) there in omega arith
+        let same : on_lists p after (set seats id w) ≡ on_lists p homes (set seats id w) = ap (λ (h : Homes). on_lists p h (set seats id w)) there in omega arith
 
     -- how often p is listed once a list went home
     sent : (after : Homes) (w : Stance) (l : ℕ) (found : List Waiter) (list : Waiters) → l < z.locks → v.hand ≡ hand_of l found → after ≡ set homes l (maybe.some list) → w.hand ≡ None → (p : ℕ)
-        → listed p after (set seats id w) + times p found ≡ listed p homes seats + times p list.items
+        → on_lists p after (set seats id w) + times_on p found ≡ on_lists p homes seats + times_on p list.items
     sent after w l found list inside hand there none p =
         let lists = listed_sent homes seats id v w at p l found list (out id l v found at inside hand) hand none in
-        let same : listed p after (set seats id w) ≡ listed p (set homes l (maybe.some list)) (set seats id w) = ap (λ (h : Homes). listed p h (set seats id w)) there in omega arith
+        let same : on_lists p after (set seats id w) ≡ on_lists p (set homes l (maybe.some list)) (set seats id w) = ap (λ (h : Homes). on_lists p h (set seats id w)) there in omega arith
 
     -- the flag of l, this seat's number and what is due stay, and nobody is listed more
     same : (after : Homes) (i x : ℕ) (w : Stance) (l : ℕ) → l < z.locks → has_flag release_ok (get_or (set words i x) (state_at l) 0) ≡ has_flag release_ok (get_or words (state_at l) 0)
-        → w.own ≡ v.own → w.due ≡ v.due → ((p : ℕ) → listed p after (set seats id w) ≤ listed p homes seats) → ReleaseOkIsOwed l (get_or (set words i x) (state_at l) 0) after (set seats id w)
+        → w.own ≡ v.own → w.due ≡ v.due → ((p : ℕ) → on_lists p after (set seats id w) ≤ on_lists p homes seats) → ReleaseOkIsOwed l (get_or (set words i x) (state_at l) 0) after (set seats id w)
     same after i x w l below kept own due fewer clear =
         let a = was l below (sym kept ∙ clear) in let less = fewer a.proc in let off = a.off in anywhere seats id v at after w l a.id a.proc a.seat a.at a.own a.due (omega arith) own due
 
     -- and no list moves
     unmoved : (after : Homes) (i x : ℕ) (w : Stance) (l : ℕ) → l < z.locks → KeepsFlag release_ok z words i x → after ≡ homes → sight w ≡ sight v → ReleaseOkIsOwed l (get_or (set words i x) (state_at l) 0) after (set seats id w)
     unmoved after i x w l below keeps there seen =
-        same after i x w l below (ok_kept i x l below keeps) (ap (λ (s : Sight). s.0) seen) (ap (λ (s : Sight). s.1) seen) (no_more after w there (λ p. ap (λ (s : Sight). times p (hand_list s.2)) seen))
+        same after i x w l below (ok_kept i x l below keeps) (ap (λ (s : Sight). s.0) seen) (ap (λ (s : Sight). s.1) seen) (no_more after w there (λ p. ap (λ (s : Sight). times_on p (hand_list s.2)) seen))
 
     -- those who are taken leave the list, of whom one who wants the lock will answer
     detached : (after : Homes) (i x : ℕ) (w : Stance) (m : ℕ) (found : List Waiter) → m < z.locks → i ≡ state_at m → x ≡ woken_word (taken_from found) (kept_from found) (get_or words i 0) → v.hand ≡ hand_of m found
-        → w.own ≡ v.own → w.due ≡ v.due → ((p : ℕ) → listed p after (set seats id w) + times p found ≡ listed p homes seats + times p (kept_from found)) → (locker : Bool) → has_locker (taken_from found) ≡ locker
+        → w.own ≡ v.own → w.due ≡ v.due → ((p : ℕ) → on_lists p after (set seats id w) + times_on p found ≡ on_lists p homes seats + times_on p (kept_from found)) → (locker : Bool) → has_locker (taken_from found) ≡ locker
         → ReleaseOkIsOwed m (get_or (set words i x) (state_at m) 0) after (set seats id w)
     detached after i x w m found inside at_state becomes hand own due lists false none clear =
         let set_now : has_flag release_ok (get_or (set words i x) (state_at m) 0) ≡ 1 =
@@ -130,7 +130,7 @@ module _ (z : Size) (words : List ℕ) (homes : Homes) (seats : List Stance) (lo
     owed_turn after i x w (takes m list inside at_state unlocked becomes home there none is) l below =
         same after i x w l below (ok_kept i x l below (λ k inside e. ap (has_flag release_ok) becomes ∙ set_keeps 28 29 (get_or words i 0) refl)) (ap own_of is) (ap due_of is)
         (λ p. let lists = listed_out homes seats id v w at p m list home none (ap (λ (u : Stance). u.hand) is) in
-        let moved : listed p after (set seats id w) ≡ listed p (set homes m maybe.none) (set seats id w) = ap (λ (h : Homes). listed p h (set seats id w)) there in omega arith)
+        let moved : on_lists p after (set seats id w) ≡ on_lists p (set homes m maybe.none) (set seats id w) = ap (λ (h : Homes). on_lists p h (set seats id w)) there in omega arith)
     owed_turn after i x w (flags m found inside at_state becomes there hand unflagged is) l below =
         unmoved after i x w l below (λ k inside e. ap (has_flag release_ok) becomes ∙ set_keeps 30 29 (get_or words i 0) refl) there (ap sight is)
     owed_turn after i x w (announces q few own at_field becomes there not quiet is) l below = unmoved after i x w l below (λ k inside e. absurd (omega arith)) there (ap sight is)
@@ -139,7 +139,7 @@ module _ (z : Size) (words : List ℕ) (homes : Homes) (seats : List Stance) (lo
         (λ here. let mine : a.seat ≡ v = found_here seats id v at a.id a.seat a.at here in let none : v.due ≡ None = (sound id v at).undue announced in
         let some : v.due ≡ Some l = ap due_of (sym mine) ∙ a.due in absurd (cc))
         (λ ne. let lists = sent after w m found list inside hand there (ap (λ (u : Stance). u.hand) is) a.proc in let off = a.off in
-        let more : times a.proc list.items ≡ times a.proc found + is_own a.proc (Some q) = ap (times a.proc) joined ∙ times_joined a.proc (waiter q want) found in
+        let more : times_on a.proc list.items ≡ times_on a.proc found + is_own a.proc (Some q) = ap (times_on a.proc) joined ∙ times_joined a.proc (waiter q want) found in
         let not_mine : is_own a.proc v.own ≡ is_own a.proc (Some q) = ap (is_own a.proc) own in
         let two = total_two (λ (u : Stance). is_own a.proc u.own) seats id a.id v a.seat ne at a.at in let one = alone a.proc in
         let his = own_here a.proc a.proc a.seat.own a.own refl in elsewhere seats id v at after w l a.id a.proc a.seat a.at a.own a.due (omega arith) ne)
@@ -148,27 +148,27 @@ module _ (z : Size) (words : List ℕ) (homes : Homes) (seats : List Stance) (lo
         let a = was l below (sym (ok_kept i x l below (λ k inside e. ap (has_flag release_ok) becomes ∙ sent_ok (is_empty (without q found)) (get_or words i 0))) ∙ clear) in let off = a.off in dite (ℕ_discrete a.id id)
         (λ here. let mine : a.seat ≡ v = found_here seats id v at a.id a.seat a.at here in
         let on = (listed_once.leaves id v at true a.proc leaving (ap own_of (sym mine) ∙ a.own)).0 refl in let least = total_at (hand_times a.proc) seats id v at in absurd (omega arith))
-        (λ ne. let lists = sent after w m found list inside hand there (ap (λ (u : Stance). u.hand) is) a.proc in let fewer : times a.proc list.items ≡ times a.proc (without q found) = ap (times a.proc) left in
+        (λ ne. let lists = sent after w m found list inside hand there (ap (λ (u : Stance). u.hand) is) a.proc in let fewer : times_on a.proc list.items ≡ times_on a.proc (without q found) = ap (times_on a.proc) left in
         let less = times_without_le a.proc q found in elsewhere seats id v at after w l a.id a.proc a.seat a.at a.own a.due (omega arith) ne)
     owed_turn after i x w (was_taken m q want found list inside few own at_state becomes kept there hand unflagged queued round leaving is) l below =
         same after i x w l below (ok_kept i x l below (λ k inside e. ap (has_flag release_ok) becomes ∙ sent_ok (is_empty found) (get_or words i 0))) (ap own_of is) (ap due_of is)
-        (λ p. let lists = sent after w m found list inside hand there (ap (λ (u : Stance). u.hand) is) p in let kept_times : times p list.items ≡ times p found = ap (times p) kept in omega arith)
+        (λ p. let lists = sent after w m found list inside hand there (ap (λ (u : Stance). u.hand) is) p in let kept_times : times_on p list.items ≡ times_on p found = ap (times_on p) kept in omega arith)
     owed_turn after i x w (withdraws q few own at_field becomes there not announced is) l below = unmoved after i x w l below (λ k inside e. absurd (omega arith)) there (ap sight is)
     owed_turn after i x w (marks m u found done rest few at_field becomes there hand marked within unlisted is) l below = unmoved after i x w l below (λ k inside e. absurd (omega arith)) there (ap sight is)
     owed_turn after i x w (detaches m found list inside at_state becomes kept there hand unflagged marked unlisted unowed unleaving is) l below =
-        let lists : (p : ℕ) → listed p after (set seats id w) + times p found ≡ listed p homes seats + times p (kept_from found) =
-        λ p. sent after w m found list inside hand there (ap (λ (u : Stance). u.hand) is) p ∙ ap (λ (ws : List Waiter). listed p homes seats + times p ws) kept in
+        let lists : (p : ℕ) → on_lists p after (set seats id w) + times_on p found ≡ on_lists p homes seats + times_on p (kept_from found) =
+        λ p. sent after w m found list inside hand there (ap (λ (u : Stance). u.hand) is) p ∙ ap (λ (ws : List Waiter). on_lists p homes seats + times_on p ws) kept in
         dite (ℕ_discrete l m)
         (λ here. subst (λ (k : ℕ). ReleaseOkIsOwed k (get_or (set words i x) (state_at k) 0) after (set seats id w)) (sym here)
         (detached after i x w m found inside at_state becomes hand (ap own_of is) (ap due_of is) lists (has_locker (taken_from found)) refl))
         (λ ne. same after i x w l below (ok_else i x l (λ e. ne (omega arith))) (ap own_of is) (ap due_of is) (λ p. let moved = lists p in let parted = times_parted p found in omega arith))
     owed_turn after i x w (summons m found list inside at_state becomes kept there hand unflagged marked unlisted unowed unleaving is) l below =
         same after i x w l below (ok_kept i x l below (λ k inside e. ap (has_flag release_ok) becomes ∙ clear_keeps 28 29 (get_or words i 0) refl)) (ap own_of is) (ap due_of is)
-        (λ p. let lists = sent after w m found list inside hand there (ap (λ (u : Stance). u.hand) is) p in let kept_times : times p list.items ≡ times p (lockers_from found) = ap (times p) kept in
+        (λ p. let lists = sent after w m found list inside hand there (ap (λ (u : Stance). u.hand) is) p in let kept_times : times_on p list.items ≡ times_on p (lockers_from found) = ap (times_on p) kept in
         let parted = times_headed p found in omega arith)
     owed_turn after i x w (returns m found list inside at_state becomes kept there hand unflagged marked unleaving is) l below =
         same after i x w l below (ok_kept i x l below (λ k inside e. ap (has_flag release_ok) becomes ∙ clear_keeps 28 29 (get_or words i 0) refl)) (ap own_of is) (ap due_of is)
-        (λ p. let lists = sent after w m found list inside hand there (ap (λ (u : Stance). u.hand) is) p in let kept_times : times p list.items ≡ times p found = ap (times p) kept in omega arith)
+        (λ p. let lists = sent after w m found list inside hand there (ap (λ (u : Stance). u.hand) is) p in let kept_times : times_on p list.items ≡ times_on p found = ap (times_on p) kept in omega arith)
     owed_turn after i x w (unmarks u us few at_field becomes there unlisted is) l below = unmoved after i x w l below (λ k inside e. absurd (omega arith)) there (ap sight is)
     owed_turn after i x w (posts u us few at_sem becomes there owed cleared is) l below = unmoved after i x w l below (λ k inside e. absurd (omega arith)) there (ap sight is)
     owed_turn after i x w (sees q few own at_sem becomes some there undowned is) l below = unmoved after i x w l below (λ k inside e. absurd (omega arith)) there (ap sight is)

@@ -1,4 +1,4 @@
--- What each step owes to the table, from what its caller knows.
+-- The table allows each step, from what its caller knows.
 use Rattle.std.proofs.Common.{◌≡◌, ℕ, ◌+◌, ◌-◌, ◌%◌, ◌^◌, ◌<◌, ◌≤◌, eqb, Bool, true, false, cond, List, [], get_or, set, map, Option, None, Some, sym, refl, ap, ◌∙◌, subst, arith}
 use Rattle.std.proofs.lemmas.Bool.{eqb-true}
 use mathlib.Core.Option as maybe
@@ -22,7 +22,7 @@ use Rattle.lw_core.specs.WaitLists.{home_of, home_list}
 use Rattle.lw_core.specs.Machine.{LwState, mode_in, number_of, lock_number, word_of, becomes, next, takes_list, as_waiters, act_of, carried, IsInRange, Allowed, HoldsNothing}
 use Rattle.lw_core.specs.Rule.{Rule, numbers_of, seating_of}
 use Rattle.lw_core.specs.Runs.{drew_one, stays, comes, both, spent}
-use Rattle.lw_core.specs.Ops.{about, gives, op_of, Owes}
+use Rattle.lw_core.specs.Ops.{about, result_of, op_of, TableAllows}
 use Rattle.lw_core.specs.Sending.{HasSlot}
 use Rattle.lw_core.specs.Told.{Sat, does, looks, draws_one}
 use Rattle.seat_roster.proofs.Stretches.{at_seen}
@@ -132,7 +132,7 @@ subtracts : (n k : ℕ) → n < 2 ^ 32 → k ≤ n → (n + (2 ^ 64 - k)) % 2 ^ 
 subtracts n k small below = omega arith
 
 -- the table's operation does to the word what the machine says
-by_kind : (k : LwStep) (n : ℕ) → Bounds k n → gives (op_of k) n ≡ becomes k n
+by_kind : (k : LwStep) (n : ℕ) → Bounds k n → result_of (op_of k) n ≡ becomes k n
 by_kind (kind.Grant l m w) n small = on_exchange n w (λ (b : Bool). either b ((w + grant_of m) % 2 ^ 64) n ≡ cond b (w + grant_of m) n) (λ hit. sum_fits w m (omega arith)) (λ miss. refl)
 by_kind (kind.Refuse l m w) n h = on_exchange n w (λ (b : Bool). either b w n ≡ n) (λ hit. sym hit) (λ miss. refl)
 by_kind (kind.Sub l m b) n h = subtracts n (grant_of m) h.0 h.1
@@ -148,15 +148,15 @@ by_kind (kind.Guard l k guard.Load) n h = refl
 by_kind k n h = refl
 
 -- a step of a seat, at a table whose key is its size
-pub owes : (lawful : ℕ → List ℕ → Type 0) (key z : Size) (k : LwStep) (me : Sat) (slots id own word : ℕ) (o : WordOp) → key ≡ z → me.0.own ≡ Some own → IsInRange z k → Allowed lawful k me.0 → HasSlot k me.0 me.1
-    → word ≡ word_of z own k → o ≡ op_of k → Owes lawful key slots id me word (gives o) k
-owes lawful key z k me slots id own word o keyed mine inside ok slot at is =
-    subst (λ (x : Size). Owes lawful x slots id me word (gives o) k) (sym keyed)
-    (subst (λ (i : ℕ). Owes lawful z slots id me i (gives o) k) (ap (λ (x : Option ℕ). word_of z (number_of x) k) mine ∙ sym at)
-    (allows lawful z slots id me k (gives o) inside (λ none. absurd (cc)) ok slot
-    (λ n b. ap (λ (x : WordOp). gives x n) is ∙ by_kind k n b)))
+pub table_allows : (lawful : ℕ → List ℕ → Type 0) (key z : Size) (k : LwStep) (me : Sat) (slots id own word : ℕ) (o : WordOp) → key ≡ z → me.0.own ≡ Some own → IsInRange z k → Allowed lawful k me.0 → HasSlot k me.0 me.1
+    → word ≡ word_of z own k → o ≡ op_of k → TableAllows lawful key slots id me word (result_of o) k
+table_allows lawful key z k me slots id own word o keyed mine inside ok slot at is =
+    subst (λ (x : Size). TableAllows lawful x slots id me word (result_of o) k) (sym keyed)
+    (subst (λ (i : ℕ). TableAllows lawful z slots id me i (result_of o) k) (ap (λ (x : Option ℕ). word_of z (number_of x) k) mine ∙ sym at)
+    (allows lawful z slots id me k (result_of o) inside (λ none. absurd (cc)) ok slot
+    (λ n b. ap (λ (x : WordOp). result_of x n) is ∙ by_kind k n b)))
 
 -- the same, of one arm's operation, where the play names the table's size
-pub owes_as : (lawful : ℕ → List ℕ → Type 0) (z y : Size) (slots id : ℕ) (me : Sat) (word : ℕ) (o arm : WordOp) (k : LwStep) → y ≡ z → o ≡ arm → Owes lawful z slots id me word (gives o) k
-    → Allows (Rule lawful z) slots id me word (gives arm) (does lawful y k about me)
-owes_as lawful z y slots id me word o arm k sized is h = subst (λ (x : Size × WordOp). Allows (Rule lawful z) slots id me word (gives x.1) (does lawful x.0 k about me)) (λ j. (sym sized j, is j)) h
+pub table_allows_as : (lawful : ℕ → List ℕ → Type 0) (z y : Size) (slots id : ℕ) (me : Sat) (word : ℕ) (o arm : WordOp) (k : LwStep) → y ≡ z → o ≡ arm → TableAllows lawful z slots id me word (result_of o) k
+    → Allows (Rule lawful z) slots id me word (result_of arm) (does lawful y k about me)
+table_allows_as lawful z y slots id me word o arm k sized is h = subst (λ (x : Size × WordOp). Allows (Rule lawful z) slots id me word (result_of x.1) (does lawful x.0 k about me)) (λ j. (sym sized j, is j)) h

@@ -273,8 +273,6 @@ module _ (l : ℕ) where
   pub looked_goes : (b : Option Call) (p : Place) → MayLook b p → (is_zero : Bool) → Goes l p (looked is_zero p)
   looked_goes (Some c) [] ok true = wanders _ _ refl refl (undue l None)
   looked_goes (Some c) [] ok false = wanders _ _ refl refl (undue l None)
-  looked_goes (Some c) (Looking ∷ p) ok true = goes_on _ _ refl (λ is. is) (undue l (sleep_entry p))
-  looked_goes (Some c) (Looking ∷ p) ok false = goes_on _ _ refl (λ is. is) (undue l (sleep_entry p))
   looked_goes None (Looking ∷ p) ok true = goes_on _ _ refl (λ is. is) (undue l (sleep_entry p))
   looked_goes None (Looking ∷ p) ok false = goes_on _ _ refl (λ is. is) (undue l (sleep_entry p))
   looked_goes None (Asleep ∷ p) ok true = goes_on _ _ refl (λ is. is) (undue l (sleep_entry p))

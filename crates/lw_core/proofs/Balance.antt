@@ -12,8 +12,8 @@ use Rattle.seat_roster.proofs.Numbers as numbers
 use Rattle.lw_core.specs.declared.view.Size.{Size}
 use Rattle.lw_core.specs.declared.view.Waiter.{Waiter}
 use Rattle.lw_core.specs.Words.{Waiters, state_at, waiting_at, sem_at, word_count}
-use Rattle.lw_core.specs.WaitLists.{waiter, times, without, kept_from, lockers_from}
-use Rattle.lw_core.specs.Stances.{Stance, hand_of, hand_list, is_own, count_if, listed, in_round}
+use Rattle.lw_core.specs.WaitLists.{waiter, times_on, without, kept_from, lockers_from}
+use Rattle.lw_core.specs.Stances.{Stance, hand_of, hand_list, is_own, count_if, on_lists, in_round}
 use Rattle.lw_core.specs.ListedOnce.{ListedOnce}
 use Rattle.lw_core.specs.WakesAreConserved.{spends, earns, takes_down, WakesAreConserved}
 use Rattle.lw_core.proofs.Lists.{times_joined, times_left, times_parted, times_headed}
@@ -90,7 +90,7 @@ module _ (z : Size) (words : List ℕ) (homes : Homes) (seats : List Stance) (lo
 
     -- the sums of the seat move alike on both sides
     moved : (after : Homes) (w : Stance)
-        → ((p : ℕ) → p < z.procs → get_or (set words i x) (sem_at z p) 0 + (spends p w + (listed p after (set seats id w) + earns p v)) ≡ get_or words (sem_at z p) 0 + (spends p v + (listed p homes seats + earns p w)))
+        → ((p : ℕ) → p < z.procs → get_or (set words i x) (sem_at z p) 0 + (spends p w + (on_lists p after (set seats id w) + earns p v)) ≡ get_or words (sem_at z p) 0 + (spends p v + (on_lists p homes seats + earns p w)))
         → ((p : ℕ) → p < z.procs → total (takes_down p) seats + takes_down p w ≤ get_or (set words i x) (sem_at z p) 0 + takes_down p v) → Kept after w
     moved after w even enough = record {
       balance = λ p below. let old = was.balance p below in let equal = even p below in let a = total_set (spends p) seats id v w at in let b = total_set (earns p) seats id v w at in omega arith;
@@ -98,13 +98,13 @@ module _ (z : Size) (words : List ℕ) (homes : Homes) (seats : List Stance) (lo
     }
 
     -- no semaphore changes
-    quiet : (after : Homes) (w : Stance) → HasSameSems z words (set words i x) → ((p : ℕ) → spends p w + (listed p after (set seats id w) + earns p v) ≡ spends p v + (listed p homes seats + earns p w))
+    quiet : (after : Homes) (w : Stance) → HasSameSems z words (set words i x) → ((p : ℕ) → spends p w + (on_lists p after (set seats id w) + earns p v) ≡ spends p v + (on_lists p homes seats + earns p w))
         → ((p : ℕ) → takes_down p w ≤ takes_down p v) → Kept after w
     quiet after w sems even downs = moved after w (λ p _. let same = sems p in let equal = even p in omega arith) (λ p below. let same = sems p in let old = was.there p below in let fewer = downs p in omega arith)
 
     -- and no list moves
     within : (w : Stance) → HasSameSems z words (set words i x) → hand_list w.hand ≡ hand_list v.hand → ((p : ℕ) → takes_down p w ≤ takes_down p v) → ((p : ℕ) → spends p w + earns p v ≡ spends p v + earns p w) → Kept homes w
-    within w sems hands downs even = quiet homes w sems (λ p. let same = listed_same homes seats id v w at p (ap (times p) hands) in let equal = even p in omega arith) downs
+    within w sems hands downs even = quiet homes w sems (λ p. let same = listed_same homes seats id v w at p (ap (times_on p) hands) in let equal = even p in omega arith) downs
 
     -- and nothing changes that the balance reads of the seat
     aside : (w : Stance) → HasSameSems z words (set words i x) → sight w ≡ sight v → Kept homes w
@@ -118,14 +118,14 @@ module _ (z : Size) (words : List ℕ) (homes : Homes) (seats : List Stance) (lo
 
     -- the list in hand goes home, changed as the sums of the seat are
     sent : (l : ℕ) (found : List Waiter) (list : Waiters) (w : Stance) → l < z.locks → i ≡ state_at l → v.hand ≡ hand_of l found → w.hand ≡ None → ((p : ℕ) → takes_down p w ≤ takes_down p v)
-        → ((p : ℕ) → spends p w + (times p list.items + earns p v) ≡ spends p v + (times p found + earns p w)) → Kept (set homes l (maybe.some list)) w
+        → ((p : ℕ) → spends p w + (times_on p list.items + earns p v) ≡ spends p v + (times_on p found + earns p w)) → Kept (set homes l (maybe.some list)) w
     sent l found list w below is_i hand empty downs even = quiet (set homes l (maybe.some list)) w (sems_state z words i x l below is_i)
         (λ p. let home = listed_sent homes seats id v w at p l found list (out id l v found at below hand) hand empty in let equal = even p in omega arith) downs
 
     -- a semaphore changes, and no list moves
     in_sem : (w : Stance) → hand_list w.hand ≡ hand_list v.hand → ((q : ℕ) → get_or (set words i x) (sem_at z q) 0 + (spends q w + earns q v) ≡ get_or words (sem_at z q) 0 + (spends q v + earns q w))
         → ((q : ℕ) → q < z.procs → total (takes_down q) seats + takes_down q w ≤ get_or (set words i x) (sem_at z q) 0 + takes_down q v) → Kept homes w
-    in_sem w hands even enough = moved homes w (λ q _. let same = listed_same homes seats id v w at q (ap (times q) hands) in let equal = even q in omega arith) enough
+    in_sem w hands even enough = moved homes w (λ q _. let same = listed_same homes seats id v w at q (ap (times_on q) hands) in let equal = even q in omega arith) enough
 
     -- that of p is posted
     posted : (p : ℕ) (w : Stance) → p < z.procs → i ≡ sem_at z p → x ≡ get_or words i 0 + 1 → hand_list w.hand ≡ hand_list v.hand → ((q : ℕ) → takes_down q w ≤ takes_down q v)
@@ -159,25 +159,25 @@ module _ (z : Size) (words : List ℕ) (homes : Homes) (seats : List Stance) (lo
     turned after w (flags l found below is_i _ same hand _ is) = by _ _ _ _ same is (aside _ (sems_state z words i x l below is_i) refl)
     turned after w (announces p below own is_i _ same _ _ is) = by _ _ _ _ same is (aside _ (sems_waiting z words i x p is_i) refl)
     turned after w (queues l p want found list below under own is_i _ items same hand _ _ round _ is) = by _ _ _ _ same is (sent l found list _ below is_i hand refl (λ q. omega arith)
-        (λ q. let more : times q list.items ≡ times q found + is_own q (Some p) = ap (times q) items ∙ times_joined q (waiter p want) found in let mine = ap (is_own q) own in
+        (λ q. let more : times_on q list.items ≡ times_on q found + is_own q (Some p) = ap (times_on q) items ∙ times_joined q (waiter p want) found in let mine = ap (is_own q) own in
         let none : in_round q v ≡ 0 = ap (λ (b : Bool). count_if b (is_own q v.own)) round in omega arith))
     turned after w (checks l p want found under own is_i is_x same hand _ _ _ is) = by _ _ _ _ same is (aside _ (sems_read z words i x is_x) refl)
     turned after w (leaves l p want found list below under own is_i _ items same hand _ _ round leaving _ is) = by _ _ _ _ same is (sent l found list _ below is_i hand refl (λ q. omega arith)
-        (λ q. let rest : times q list.items ≡ times q (without p found) = ap (times q) items in let mine = ap (is_own q) own in let one : in_round q v ≡ is_own q v.own = ap (λ (b : Bool). count_if b (is_own q v.own)) round in
+        (λ q. let rest : times_on q list.items ≡ times_on q (without p found) = ap (times_on q) items in let mine = ap (is_own q) own in let one : in_round q v ≡ is_own q v.own = ap (λ (b : Bool). count_if b (is_own q v.own)) round in
         let fewer = times_left p found (sym (times_in_hand p v (hand_of l found) hand) ∙ (listed_once.leaves id v at true p leaving own).0 refl) q in omega arith))
     turned after w (was_taken l p want found list below under own is_i _ items same hand _ _ _ _ is) = by _ _ _ _ same is (sent l found list _ below is_i hand refl (λ q. omega arith)
-        (λ q. let all : times q list.items ≡ times q found = ap (times q) items in omega arith))
+        (λ q. let all : times_on q list.items ≡ times_on q found = ap (times_on q) items in omega arith))
     turned after w (withdraws p below own is_i _ same _ _ is) = by _ _ _ _ same is (aside _ (sems_waiting z words i x p is_i) refl)
     turned after w (marks l u found done rest below is_i _ same hand _ _ _ is) = by _ _ _ _ same is (aside _ (sems_waiting z words i x u.proc is_i) refl)
     turned after w (detaches l found list below is_i _ items same hand _ _ _ owed _ is) = by _ _ _ _ same is (sent l found list _ below is_i hand refl (λ q. omega arith)
-        (λ q. let rest : times q list.items ≡ times q (kept_from found) = ap (times q) items in let parted = times_parted q found in let none : times q v.owed ≡ 0 = ap (times q) owed in omega arith))
+        (λ q. let rest : times_on q list.items ≡ times_on q (kept_from found) = ap (times_on q) items in let parted = times_parted q found in let none : times_on q v.owed ≡ 0 = ap (times_on q) owed in omega arith))
     turned after w (summons l found list below is_i _ items same hand _ _ _ owed _ is) = by _ _ _ _ same is (sent l found list _ below is_i hand refl (λ q. omega arith)
-        (λ q. let rest : times q list.items ≡ times q (lockers_from found) = ap (times q) items in let parted = times_headed q found in let none : times q v.owed ≡ 0 = ap (times q) owed in omega arith))
+        (λ q. let rest : times_on q list.items ≡ times_on q (lockers_from found) = ap (times_on q) items in let parted = times_headed q found in let none : times_on q v.owed ≡ 0 = ap (times_on q) owed in omega arith))
     turned after w (returns l found list below is_i _ items same hand _ _ _ is) = by _ _ _ _ same is (sent l found list _ below is_i hand refl (λ q. omega arith)
-        (λ q. let all : times q list.items ≡ times q found = ap (times q) items in omega arith))
+        (λ q. let all : times_on q list.items ≡ times_on q found = ap (times_on q) items in omega arith))
     turned after w (unmarks u us below is_i _ same _ is) = by _ _ _ _ same is (aside _ (sems_waiting z words i x u.proc is_i) refl)
     turned after w (posts u us below is_i is_x same owed _ is) = by _ _ _ _ same is (posted u.proc _ below is_i is_x refl (λ q. omega arith)
-        (λ q. let one : times q v.owed ≡ is_own q (Some u.proc) + times q us = ap (times q) owed in omega arith))
+        (λ q. let one : times_on q v.owed ≡ is_own q (Some u.proc) + times_on q us = ap (times_on q) owed in omega arith))
     turned after w (sees p below own is_i is_x some same down is) = by _ _ _ _ same refl (found_there p w below own is_i is_x some down is)
     turned after w (sleeps_down p below own is_i is_x same down between is) = by _ _ _ _ same is (lowered p _ below own is_i is_x down refl refl
         (λ q mine. let none : count_if v.between (is_own q v.own) ≡ 0 = ap (λ (b : Bool). count_if b (is_own q v.own)) between in omega arith))

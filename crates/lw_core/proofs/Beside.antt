@@ -13,9 +13,9 @@ use Rattle.lw_core.specs.declared.view.Waiter.{Waiter}
 use Rattle.lw_core.specs.declared.view.Want.{Want}
 use Rattle.lw_core.specs.declared.view.Want.TheVariants.{UntilFree}
 use Rattle.lw_core.specs.Words.{state_at, locked, has_flag}
-use Rattle.lw_core.specs.WaitLists.{times, times_with, home_of, home_list}
+use Rattle.lw_core.specs.WaitLists.{times_on, times_with, home_of, home_list}
 use Rattle.lw_core.specs.Machine.{LwState, number_of}
-use Rattle.lw_core.specs.Stances.{Stance, Hand, Entry, hand_list, hand_times, hand_with, has_hand, has_list, home_times, is_own, listed, may_be_listed, entry_of, entry_is, queued_at, stance_of}
+use Rattle.lw_core.specs.Stances.{Stance, Hand, Entry, hand_list, hand_times, hand_with, has_hand, has_list, home_times, is_own, on_lists, may_be_listed, entry_of, entry_is, queued_at, stance_of}
 use Rattle.lw_core.specs.FlagCoversList.{hand_length, is_flag, waits_for}
 use Rattle.lw_core.specs.FreeLockIsAnswered.{lock_in}
 use Rattle.lw_core.specs.Rule.{PlacesFit, EachCountsHolders, EachListInOneHand, EachHandInside, EachListedOnce, EachFlagCovers, EachReleaseOkIsOwed}
@@ -40,7 +40,7 @@ pub record Beside (z : Size) (s : LwState) : Type 0 where
   pub flags : EachFlagCovers z s
   pub answers : EachReleaseOkIsOwed z s
 
-hand_there : (p : ℕ) (o : Option Hand) → 1 ≤ times p (hand_list o) → (h : Hand) × (o ≡ Some h)
+hand_there : (p : ℕ) (o : Option Hand) → 1 ≤ times_on p (hand_list o) → (h : Hand) × (o ≡ Some h)
 hand_there p None some = absurd (omega arith)
 hand_there p (Some h) some = (h, refl)
 
@@ -53,26 +53,26 @@ module _ (z : Size) (s : LwState) (b : Beside z s) where
   on_list l want p = times_with p want (home_list s.homes l) + total (λ (u : Stance). hand_with l p want u.hand) seats
 
   -- who is listed is on the list of some lock, with some want
-  somewhere : (p : ℕ) → 1 ≤ listed p s.homes seats → (l : ℕ) × (want : Want) × (l < z.locks) × (1 ≤ on_list l want p)
+  somewhere : (p : ℕ) → 1 ≤ on_lists p s.homes seats → (l : ℕ) × (want : Want) × (l < z.locks) × (1 ≤ on_list l want p)
   somewhere p some = dite (ℕ_discrete (total (home_times p) s.homes) 0)
-      (λ none. let t = total_some (hand_times p) seats (omega arith) in let h = hand_there p t.1.hand t.3 in let on : times p (hand_list t.1.hand) ≡ times p h.0.list = ap (λ (o : Option Hand). times p (hand_list o)) h.1 in
+      (λ none. let t = total_some (hand_times p) seats (omega arith) in let h = hand_there p t.1.hand t.3 in let on : times_on p (hand_list t.1.hand) ≡ times_on p h.0.list = ap (λ (o : Option Hand). times_on p (hand_list o)) h.1 in
       let w = some_want p h.0.list (omega arith) in
       let mine : hand_with h.0.lock p w.0 t.1.hand ≡ times_with p w.0 h.0.list = hand_here (times_with p w.0) h.0.lock h.0.lock t.1.hand h.0.list h.1 refl in
       let least = total_at (λ (u : Stance). hand_with h.0.lock p w.0 u.hand) seats t.0 t.1 t.2 in (h.0.lock, w.0, b.hands t.0 t.1 h.0 t.2 h.1, omega arith))
-      (λ more. let t = total_some (home_times p) s.homes (omega arith) in let on : times p (home_list s.homes t.0) ≡ home_times p t.1 = ap (λ h. times p (home_of h)) t.2 in
+      (λ more. let t = total_some (home_times p) s.homes (omega arith) in let on : times_on p (home_list s.homes t.0) ≡ home_times p t.1 = ap (λ h. times_on p (home_of h)) t.2 in
       let w = some_want p (home_list s.homes t.0) (omega arith) in let inside = at_inside s.homes t.0 t.1 t.2 in let slots = b.slots in (t.0, w.0, omega arith, omega arith))
 
   -- and queued for it
-  pub queued_for : (id p : ℕ) (v : View) → get_elem? s.views id ≡ maybe.some v → v.own ≡ Some p → 1 ≤ listed p s.homes seats → (l : ℕ) × (want : Want) × (queued_at v.place ≡ entry_of l want) × (1 ≤ on_list l want p)
+  pub queued_for : (id p : ℕ) (v : View) → get_elem? s.views id ≡ maybe.some v → v.own ≡ Some p → 1 ≤ on_lists p s.homes seats → (l : ℕ) × (want : Want) × (queued_at v.place ≡ entry_of l want) × (1 ≤ on_list l want p)
   queued_for id p v at own some =
-      let on = somewhere p some in let l : ℕ = on.0 in let want : Want = on.1 in let times = on.3 in let round = b.listed.for_round l on.2 want p in
+      let on = somewhere p some in let l : ℕ = on.0 in let want : Want = on.1 in let times_on = on.3 in let round = b.listed.for_round l on.2 want p in
       let t = total_some (may_be_listed l want p) seats (omega arith) in let is = counted (entry_is l want t.1.queued) (is_own p t.1.own) t.3 in let there = at_seen stance_of s.views id v (stance_of v) at refl in
       let mine : t.1 ≡ stance_of v = dite (ℕ_discrete t.0 id) (λ here. found_here seats id (stance_of v) there t.0 t.1 t.2 here)
       (λ ne. absurd (two_numbers seats b.alone id t.0 p (stance_of v) t.1 there t.2 ne own (owned p t.1.own is.1))) in
-      (l, want, sym (ap (λ (u : Stance). u.queued) mine) ∙ entry_there l want t.1.queued is.0, times)
+      (l, want, sym (ap (λ (u : Stance). u.queued) mine) ∙ entry_there l want t.1.queued is.0, times_on)
 
   -- so the list of the lock for which it queued, at home or in hand, isn't empty
-  pub listed_there : (l id p : ℕ) (v : View) → get_elem? s.views id ≡ maybe.some v → v.own ≡ Some p → lock_in (queued_at v.place) ≡ Some l → 1 ≤ listed p s.homes seats → 1 ≤ length (home_list s.homes l) + total (waits_for l) seats
+  pub listed_there : (l id p : ℕ) (v : View) → get_elem? s.views id ≡ maybe.some v → v.own ≡ Some p → lock_in (queued_at v.place) ≡ Some l → 1 ≤ on_lists p s.homes seats → 1 ≤ length (home_list s.homes l) + total (waits_for l) seats
   listed_there l id p v at own queued some =
       let t = queued_for id p v at own some in let on = t.3 in let is : t.0 ≡ l = ap number_of (sym (ap lock_in t.2) ∙ queued) in
       let at_home = with_most p t.1 (home_list s.homes t.0) in let in_hand = total_le (λ (u : Stance). hand_with t.0 p t.1 u.hand) (waits_for t.0) seats (λ i u e. hand_most t.0 p t.1 u.hand u.flagged) in
@@ -91,7 +91,7 @@ module _ (z : Size) (s : LwState) (b : Beside z s) where
 
   -- where nobody who waits until l is free is on its list at home, and no list of l is in hand, nobody who queued so is listed
   pub none_there : (l id p : ℕ) (v : View) → l < z.locks → get_elem? s.views id ≡ maybe.some v → v.own ≡ Some p → queued_at v.place ≡ entry_of l UntilFree → times_with p UntilFree (home_list s.homes l) ≡ 0
-      → has_flag locked (get_or s.words (state_at l) 0) ≡ 0 → 1 ≤ listed p s.homes seats → ⊥
+      → has_flag locked (get_or s.words (state_at l) 0) ≡ 0 → 1 ≤ on_lists p s.homes seats → ⊥
   none_there l id p v below at own queued none clear some =
       let t = queued_for id p v at own some in let one = (b.lists l below).one in
       let same : on_list t.0 t.1 p ≡ on_list l UntilFree p = ap on_entry (sym t.2 ∙ queued) in let on = t.3 in

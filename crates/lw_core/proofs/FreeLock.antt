@@ -21,9 +21,9 @@ use Rattle.lw_core.specs.declared.view.Hold.{Hold}
 use Rattle.lw_core.specs.declared.view.Size.{Size}
 use Rattle.lw_core.specs.declared.view.View.{View}
 use Rattle.lw_core.specs.Words.{Waiters, state_at, guard_at, grant_of, is_free, lock_part, locked, release_ok, has_waiters, has_flag, var_at}
-use Rattle.lw_core.specs.WaitLists.{times, taken_from, kept_from, has_locker, home_list}
+use Rattle.lw_core.specs.WaitLists.{times_on, taken_from, kept_from, has_locker, home_list}
 use Rattle.lw_core.specs.Machine.{LwState, Place, outer, not_held, held, hold_in, mode_in, fresh, number_of, lock_number, IsInRange, word_of, becomes, moved, gripped, on_grant, on_refusal, calls_for_wake, let_go, after_store, in_hand, detached, posted, surplus_posted, next, MayTake, MayDetach, Allowed, after, HoldsNothing, releasing, taking, guard_hold}
-use Rattle.lw_core.specs.Stances.{Stance, hand_list, hand_at, listed, queued_at, announced_at, due_at, stance_of}
+use Rattle.lw_core.specs.Stances.{Stance, hand_list, hand_at, on_lists, queued_at, announced_at, due_at, stance_of}
 use Rattle.lw_core.specs.CountsHolders.{is_shared, is_exclusive}
 use Rattle.lw_core.specs.SeatFits.{PlaceFits}
 use Rattle.lw_core.specs.ReleaseOkIsOwed.{Answers}
@@ -64,7 +64,7 @@ own_of v = v.own
 -- A SEAT GOES ON. It sleeps for the lock only where it did, goes on to attend to it, and those who answered answer; those who sleep are listed no more than before
 module _ (homes moved : List (maybe.Option Waiters)) (views : List View) (id : ℕ) (v w : View) (at : get_elem? views id ≡ maybe.some v) (l : ℕ) where
   carried_over : (word x : ℕ) → (lock_part x ≡ 0 → lock_part word ≡ 0) → (committed_at w.place ≡ Some l → (committed_at v.place ≡ Some l) × (w.own ≡ v.own)) → (attends_at v.place ≡ Some l → attends_at w.place ≡ Some l)
-      → ((j p : ℕ) (u : View) → get_elem? (set views id w) j ≡ maybe.some u → u.own ≡ Some p → committed_at u.place ≡ Some l → listed p moved (map stance_of (set views id w)) ≤ listed p homes (map stance_of views))
+      → ((j p : ℕ) (u : View) → get_elem? (set views id w) j ≡ maybe.some u → u.own ≡ Some p → committed_at u.place ≡ Some l → on_lists p moved (map stance_of (set views id w)) ≤ on_lists p homes (map stance_of views))
       → (Answers l homes (map stance_of views) → Answers l moved (map stance_of (set views id w))) → FreeLockIsAnswered l word homes views → FreeLockIsAnswered l x moved (set views id w)
   carried_over word x part sleeps attending fewer answering was free j p u there own asleep some = let less = fewer j p u there own asleep in ⊎_elim
       (λ (t : (j ≡ id) × (w ≡ u)). let before = sleeps (ap (λ (o : View). committed_at o.place) t.1 ∙ asleep) in
@@ -208,8 +208,8 @@ module _ (lawful : ℕ → List ℕ → Type 0) (z : Size) (s : LwState) (r : Ru
 
     -- nobody who sleeps for the lock is listed more
     fewer : (committed_at (view_by k).place ≡ Some l → committed_at v.place ≡ Some l) → (j p : ℕ) (u : View) → get_elem? now.views j ≡ maybe.some u → u.own ≡ Some p → committed_at u.place ≡ Some l
-        → listed p now.homes (map stance_of now.views) ≤ listed p s.homes (map stance_of s.views)
-    fewer sleeps j p u there own asleep = subst (λ (xs : List Stance). listed p now.homes xs ≤ listed p s.homes (map stance_of s.views)) (sym looks)
+        → on_lists p now.homes (map stance_of now.views) ≤ on_lists p s.homes (map stance_of s.views)
+    fewer sleeps j p u there own asleep = subst (λ (xs : List Stance). on_lists p now.homes xs ≤ on_lists p s.homes (map stance_of s.views)) (sym looks)
         (listed_fewer z s.words s.homes (map stance_of s.views) (out lawful z s r) id (stance_of v) seat_there now.homes _ _ (stance_of (view_by k)) (step_turn lawful z s r id v at k inside numbered ok) p quiet)
       where
         quiet : v.own ≡ Some p → announced_at v.place ≡ false
@@ -251,8 +251,8 @@ stands homes views id l word v w at place own own' was = carried_over homes home
     looks : map stance_of (set views id w) ≡ set (map stance_of views) id (stance_of w)
     looks = seen stance_of views id w (stance_of w) refl
 
-    listed_set : (p : ℕ) → listed p homes (set (map stance_of views) id (stance_of w)) ≡ listed p homes (map stance_of views)
-    listed_set p = listed_same homes (map stance_of views) id (stance_of v) (stance_of w) before p (ap (λ (q : Place). times p (hand_list (hand_at q))) place)
+    listed_set : (p : ℕ) → on_lists p homes (set (map stance_of views) id (stance_of w)) ≡ on_lists p homes (map stance_of views)
+    listed_set p = listed_same homes (map stance_of views) id (stance_of v) (stance_of w) before p (ap (λ (q : Place). times_on p (hand_list (hand_at q))) place)
 
     answering : Answers l homes (map stance_of views) → Answers l homes (map stance_of (set views id w))
     answering a = subst (Answers l homes) (sym looks) (dite (ℕ_discrete a.id id)

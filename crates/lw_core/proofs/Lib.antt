@@ -1,4 +1,5 @@
 pub mod Lists
+pub mod Below
 pub mod Flags
 pub mod Touches
 pub mod Holders
@@ -22,6 +23,7 @@ pub mod Answered
 pub mod Balance
 pub mod Markers
 pub mod Seats
+pub mod FramesStand
 pub mod WordsAreMade
 pub mod Beside
 pub mod StillAnswered
@@ -31,6 +33,7 @@ pub mod Watching
 pub mod Variable
 pub mod RuleKeeps
 pub mod InRuns
+pub mod GoesOn
 pub mod Exclusion
 pub mod NoLostWake
 pub mod Moves

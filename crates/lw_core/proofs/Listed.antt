@@ -14,8 +14,8 @@ use Rattle.lw_core.specs.declared.view.Waiter.{Waiter}
 use Rattle.lw_core.specs.declared.view.Want.{Want}
 use Rattle.lw_core.specs.declared.view.Want.TheVariants.{Shared, Exclusive, UntilFree}
 use Rattle.lw_core.specs.Words.{Waiters, waiting_at}
-use Rattle.lw_core.specs.WaitLists.{waiter, same_want, times, times_with, AllBelow, IsUntilFreeFirst, joined_by, without, taken_from, kept_from, until_free_from, lockers_from, home_of, home_list}
-use Rattle.lw_core.specs.Stances.{Hand, Entry, Stance, hand_of, entry_of, due_of, is_own, count_if, has_hand, has_list, hand_list, hand_times, hand_with, home_times, listed, in_round, entry_is, may_be_listed, unlisted_times}
+use Rattle.lw_core.specs.WaitLists.{waiter, same_want, times_on, times_with, AllBelow, IsUntilFreeFirst, joined_by, without, taken_from, kept_from, until_free_from, lockers_from, home_of, home_list}
+use Rattle.lw_core.specs.Stances.{Hand, Entry, Stance, hand_of, entry_of, due_of, is_own, count_if, has_hand, has_list, hand_list, hand_times, hand_with, home_times, on_lists, in_round, entry_is, may_be_listed, unlisted_times}
 use Rattle.lw_core.specs.ListedOnce.{OncePerRound, ListedForRound, LeavesRightly, ListedOnce}
 use Rattle.lw_core.specs.ListInOneHand.{HandsInside}
 use Rattle.lw_core.specs.WaitingTellsPlace.{adds_to, WaitingTellsPlace}
@@ -55,11 +55,11 @@ sum_less (suc n) f h p below none = let a = h n in dite (ℕ_discrete p n)
     (λ ne. let r = sum_less n f h p (omega arith) none in omega arith)
 
 -- a list of the table's backends is as long as they are often on it
-pub length_counts : (procs : ℕ) (ws : List Waiter) → AllBelow procs ws → length ws ≡ sum_to procs (λ q. times q ws)
+pub length_counts : (procs : ℕ) (ws : List Waiter) → AllBelow procs ws → length ws ≡ sum_to procs (λ q. times_on q ws)
 length_counts procs [] h = sym (sum_none procs (λ q. 0) (λ q below. refl))
-length_counts procs (w ∷ ws) h = let a = sum_add procs (λ q. is_own q (Some w.proc)) (λ q. times q ws) in let b = sum_own procs w.proc h.0 in let r = length_counts procs ws h.1 in omega arith
+length_counts procs (w ∷ ws) h = let a = sum_add procs (λ q. is_own q (Some w.proc)) (λ q. times_on q ws) in let b = sum_own procs w.proc h.0 in let r = length_counts procs ws h.1 in omega arith
 
-pub all_below : (procs : ℕ) (ws : List Waiter) → ((q : ℕ) → procs ≤ q → times q ws ≡ 0) → AllBelow procs ws
+pub all_below : (procs : ℕ) (ws : List Waiter) → ((q : ℕ) → procs ≤ q → times_on q ws ≡ 0) → AllBelow procs ws
 all_below procs [] h = tt
 all_below procs (w ∷ ws) h = (
   dite (dec_lt w.proc procs) (λ less. less) (λ more. let a = h w.proc (omega arith) in let b : is_own w.proc (Some w.proc) ≡ 1 = own_here w.proc w.proc (Some w.proc) refl refl in absurd (omega arith)),
@@ -68,14 +68,14 @@ all_below procs (w ∷ ws) h = (
 
 module _ (procs : ℕ) (homes : Homes) (seats : List Stance) (alone : (p : ℕ) → total (λ (u : Stance). is_own p u.own) seats ≤ 1) (once : OncePerRound homes seats)
     (below : (j q : ℕ) (u : Stance) → get_elem? seats j ≡ maybe.some u → u.own ≡ Some q → q < procs) (l : ℕ) (list : Waiters) (home : get_elem? homes l ≡ maybe.some (maybe.some list)) where
-  times_listed : (q : ℕ) → times q list.items ≤ listed q homes seats
+  times_listed : (q : ℕ) → times_on q list.items ≤ on_lists q homes seats
   times_listed q = let a = total_at (home_times q) homes l (maybe.some list) home in omega arith
 
-  times_most : (q : ℕ) → times q list.items ≤ 1
+  times_most : (q : ℕ) → times_on q list.items ≤ 1
   times_most q = let a = times_listed q in let b = once q in let c = in_one_round seats alone q in omega arith
 
   -- no seat has the number q
-  times_strange : (q : ℕ) → procs ≤ q → times q list.items ≡ 0
+  times_strange : (q : ℕ) → procs ≤ q → times_on q list.items ≡ 0
   times_strange q more = let a = times_listed q in let b = once q in let c = total_none (in_round q) seats (λ j u e. count_none u.round (is_own q u.own) (not_own j u e u.own refl)) in omega arith
     where
       not_own : (j : ℕ) (u : Stance) → get_elem? seats j ≡ maybe.some u → (own : Option ℕ) → u.own ≡ own → is_own q own ≡ 0
@@ -86,28 +86,28 @@ module _ (procs : ℕ) (homes : Homes) (seats : List Stance) (alone : (p : ℕ) 
   home_below = all_below procs list.items times_strange
 
   pub home_fits : length list.items ≤ procs
-  home_fits = let a = length_counts procs list.items home_below in let b = sum_most procs (λ q. times q list.items) times_most in omega arith
+  home_fits = let a = length_counts procs list.items home_below in let b = sum_most procs (λ q. times_on q list.items) times_most in omega arith
 
   pub room_on_list : (p id : ℕ) (v : Stance) → get_elem? seats id ≡ maybe.some v → v.own ≡ Some p → AllBelow procs list.items × (length list.items ≤ procs) × (v.round ≡ false → length list.items < procs)
   room_on_list p id v at own = (
     home_below,
     home_fits,
     λ none. let a = length_counts procs list.items home_below in let b = times_listed p in let c = not_listed seats alone p id v at own homes once none in let d = c.0 in
-        let r = sum_less procs (λ q. times q list.items) times_most p (below id p v at own) (omega arith) in omega arith,
+        let r = sum_less procs (λ q. times_on q list.items) times_most p (below id p v at own) (omega arith) in omega arith,
   )
 
 -- LISTS WITH THEIR WANTS. How often p is on the list of l with this want
 abbrev pub listed_with : ℕ → Want → ℕ → Homes → List Stance → ℕ
 listed_with l want p homes seats = times_with p want (home_list homes l) + total (λ (u : Stance). hand_with l p want u.hand) seats
 
-no_want : (p : ℕ) (ws : List Waiter) → ((want : Want) → times_with p want ws ≡ 0) → times p ws ≡ 0
+no_want : (p : ℕ) (ws : List Waiter) → ((want : Want) → times_with p want ws ≡ 0) → times_on p ws ≡ 0
 no_want p ws none = let a = times_by_want p ws in let b = none Shared in let c = none Exclusive in let d = none UntilFree in omega arith
 
 -- who may be on the list of l isn't one who may be on that of k
 entry_else : (l k : ℕ) (want w : Want) → l ≢ k → entry_is k w (entry_of l want) ≡ false
 entry_else l k want w ne = cond-false (eqb l k) (same_want want w) false (ne_eqb l k ne)
 
-hand_most : (l p : ℕ) (want : Want) (hand : Option Hand) → hand_with l p want hand ≤ times p (hand_list hand)
+hand_most : (l p : ℕ) (want : Want) (hand : Option Hand) → hand_with l p want hand ≤ times_on p (hand_list hand)
 hand_most l p want None = omega arith
 hand_most l p want (Some h) = by (eqb h.lock l) _ _ (times_with_le p want h.list)
   where
@@ -132,12 +132,12 @@ hand_joined l k p q want w ws = by (eqb l k) (eqb p q) (same_want want w) _ _ (t
     by true false false m n e = e
     by false c d m n e = omega arith
 
-home_most : (p : ℕ) (homes : Homes) (l : ℕ) → times p (home_list homes l) ≤ total (home_times p) homes
+home_most : (p : ℕ) (homes : Homes) (l : ℕ) → times_on p (home_list homes l) ≤ total (home_times p) homes
 home_most p [] l = omega arith
 home_most p (o ∷ os) zero = omega arith
 home_most p (o ∷ os) (suc l) = let r = home_most p os l in omega arith
 
-pub listed_with_most : (homes : Homes) (seats : List Stance) (l : ℕ) (want : Want) (p : ℕ) → listed_with l want p homes seats ≤ listed p homes seats
+pub listed_with_most : (homes : Homes) (seats : List Stance) (l : ℕ) (want : Want) (p : ℕ) → listed_with l want p homes seats ≤ on_lists p homes seats
 listed_with_most homes seats l want p =
     let a = times_with_le p want (home_list homes l) in let b = home_most p homes l in
     let c = total_le (λ (u : Stance). hand_with l p want u.hand) (hand_times p) seats (λ i u e. hand_most l p want u.hand) in omega arith
@@ -189,7 +189,7 @@ module _ (locks : ℕ) (homes : Homes) (seats : List Stance) (was : ListedOnce l
   unmoved : (w : Stance) → w.hand ≡ v.hand → ((p : ℕ) → unlisted_times p w + in_round p v ≤ unlisted_times p v + in_round p w)
       → ((l : ℕ) (want : Want) (p : ℕ) → may_be_listed l want p v ≤ may_be_listed l want p w) → LeavesRightly w → ListedOnce locks homes (set seats id w)
   unmoved w hand rounds may right = changed homes w
-      (λ p. let a = listed_same homes seats id v w at p (ap (λ (o : Option Hand). times p (hand_list o)) hand) in let b = total_set (unlisted_times p) seats id v w at in let c = total_set (in_round p) seats id v w at in
+      (λ p. let a = listed_same homes seats id v w at p (ap (λ (o : Option Hand). times_on p (hand_list o)) hand) in let b = total_set (unlisted_times p) seats id v w at in let c = total_set (in_round p) seats id v w at in
       let d = rounds p in let old = was.once p in omega arith)
       (λ l below want p. let a = total_set (λ (u : Stance). hand_with l p want u.hand) seats id v w at in let b : hand_with l p want w.hand ≡ hand_with l p want v.hand = ap (hand_with l p want) hand in
       let c = total_set (may_be_listed l want p) seats id v w at in let d = may l want p in let old = was.for_round l below want p in omega arith)
@@ -198,9 +198,9 @@ module _ (locks : ℕ) (homes : Homes) (seats : List Stance) (was : ListedOnce l
   -- nor changes anything else that this part sees
   unseen : (w : Stance) → sight w ≡ sight v → ListedOnce locks homes (set seats id w)
   unseen w same = unmoved w (ap (λ (s : Sight). s.1) same)
-      (λ p. let a : unlisted_times p w ≡ unlisted_times p v = ap (λ (s : Sight). times p s.5) same in let b : in_round p w ≡ in_round p v = ap (λ (s : Sight). count_if s.2 (is_own p s.0)) same in omega arith)
+      (λ p. let a : unlisted_times p w ≡ unlisted_times p v = ap (λ (s : Sight). times_on p s.5) same in let b : in_round p w ≡ in_round p v = ap (λ (s : Sight). count_if s.2 (is_own p s.0)) same in omega arith)
       (λ l want p. let a : may_be_listed l want p w ≡ may_be_listed l want p v = ap (λ (s : Sight). count_if (entry_is l want s.3) (is_own p s.0)) same in omega arith)
-      (subst (λ (s : Sight). (here : Bool) (p : ℕ) → s.4 ≡ Some here → s.0 ≡ Some p → (here ≡ true → times p (hand_list s.1) ≡ 1) × (here ≡ false → times p (hand_list s.1) ≡ 0)) (sym same) (was.leaves id v at))
+      (subst (λ (s : Sight). (here : Bool) (p : ℕ) → s.4 ≡ Some here → s.0 ≡ Some p → (here ≡ true → times_on p (hand_list s.1) ≡ 1) × (here ≡ false → times_on p (hand_list s.1) ≡ 0)) (sym same) (was.leaves id v at))
 
 -- MOVES. A seat comes
 pub listed_added : (homes : Homes) (seats : List Stance) (own : Option ℕ) (locks : ℕ) → ListedOnce locks homes seats → ListedOnce locks homes (seats ++ idle own [] [] ∷ [])
@@ -247,26 +247,26 @@ module _ (z : Size) (words : List ℕ) (homes : Homes) (seats : List Stance) (sl
           (λ ne. no_want p (home_of (maybe.some o)) (λ w. let a = elsewhere k (let b = at_inside homes k o e in omega arith) ne w in
           let c : times_with p w (home_list homes k) ≡ times_with p w (home_of (maybe.some o)) = ap (λ (y : maybe.Option (maybe.Option Waiters)). times_with p w (home_of y)) e in omega arith)))
 
-      in_one_hand : total (hand_times p) seats ≡ times p found
+      in_one_hand : total (hand_times p) seats ≡ times_on p found
       in_one_hand = let mine : has_list l v ≡ 1 = hand_here (λ _. 1) l l v.hand found hand refl in
           total_only (hand_times p) (has_list l) seats id v at (single l (inside id v record { lock = l; list = found } at hand)) mine (λ j u e. other j u e u.hand refl) ∙ times_in_hand p v (hand_of l found) hand
         where
-          other : (j : ℕ) (u : Stance) → get_elem? seats j ≡ maybe.some u → (o : Option Hand) → u.hand ≡ o → has_hand l o ≡ 0 → times p (hand_list o) ≡ 0
+          other : (j : ℕ) (u : Stance) → get_elem? seats j ≡ maybe.some u → (o : Option Hand) → u.hand ≡ o → has_hand l o ≡ 0 → times_on p (hand_list o) ≡ 0
           other j u e None is none = refl
           other j u e (Some h) is none = no_want p h.list (λ w.
               let a = elsewhere h.lock (inside j u h e is) (λ same. let b : has_hand l (Some h) ≡ 1 = hand_here (λ _. 1) l h.lock (Some h) h.list refl same in omega arith) w in
               let b = total_at (λ (s : Stance). hand_with h.lock p w s.hand) seats j u e in let c : hand_with h.lock p w u.hand ≡ hand_with h.lock p w (Some h) = ap (hand_with h.lock p w) is in
               let d = hand_here (times_with p w) h.lock h.lock (Some h) h.list refl refl in omega arith)
 
-      pub own_listed : listed p homes seats ≡ times p found
+      pub own_listed : on_lists p homes seats ≡ times_on p found
       own_listed = let a = at_no_home in let b = in_one_hand in omega arith
 
       -- and its waiting field is 1 exactly where it is on that one
-      pub own_field : p < z.procs → v.announced ≡ false → (here : Bool) → eqb (get_or words (waiting_at z p) 0) 1 ≡ here → (here ≡ true → times p found ≡ 1) × (here ≡ false → times p found ≡ 0)
+      pub own_field : p < z.procs → v.announced ≡ false → (here : Bool) → eqb (get_or words (waiting_at z p) 0) 1 ≡ here → (here ≡ true → times_on p found ≡ 1) × (here ≡ false → times_on p found ≡ 0)
       own_field below quiet here is =
-          let n : ℕ = get_or words (waiting_at z p) 0 in let reads : n ≡ listed p homes seats + total (adds_to p) seats = waiting p below in let parts = adds_parts p seats in let all = own_listed in let hands = in_one_hand in
+          let n : ℕ = get_or words (waiting_at z p) 0 in let reads : n ≡ on_lists p homes seats + total (adds_to p) seats = waiting p below in let parts = adds_parts p seats in let all = own_listed in let hands = in_one_hand in
           let none : total (announces_for p) seats ≡ 0 = own_counts seats alone p id v at own (λ (u : Stance). u.announced) ∙ ap (λ (b : Bool). count_if b (is_own p v.own)) quiet in
-          let gap = total_gap (marked_times p) (hand_times p) seats id v (λ j u e. (sound j u e).marked p) at in let unmarked : times p v.marked ≡ 0 = ap (times p) ((sound id v at).unmarked _ queued) in
+          let gap = total_gap (marked_times p) (hand_times p) seats id v (λ j u e. (sound j u e).marked p) at in let unmarked : times_on p v.marked ≡ 0 = ap (times_on p) ((sound id v at).unmarked _ queued) in
           let mine = times_in_hand p v (hand_of l found) hand in let once = was.once p in let one = in_one_round seats alone p in (
             λ yes. let e = eqb-true n 1 (is ∙ yes) in omega arith,
             λ no. dite (ℕ_discrete n 1) (λ e. absurd (eqb-false n 1 (is ∙ no) e)) (λ ne. omega arith),
@@ -274,11 +274,11 @@ module _ (z : Size) (words : List ℕ) (homes : Homes) (seats : List Stance) (sl
 
     -- the list of l goes home
     module _ (l : ℕ) (found : List Waiter) (list : Waiters) (below : l < z.locks) (hand : v.hand ≡ hand_of l found) (w : Stance) (none : w.hand ≡ None) where
-      sent_listed : (q : ℕ) → listed q (set homes l (maybe.some list)) (set seats id w) + times q found ≡ listed q homes seats + times q list.items
+      sent_listed : (q : ℕ) → on_lists q (set homes l (maybe.some list)) (set seats id w) + times_on q found ≡ on_lists q homes seats + times_on q list.items
       sent_listed q = listed_sent homes seats id v w at q l found list (out id l v found at below hand) hand none
 
-      sent : IsUntilFreeFirst list.items → ((q : ℕ) → times q list.items + (unlisted_times q w + in_round q v) ≤ times q found + (unlisted_times q v + in_round q w))
-          → ((k : ℕ) (want : Want) (q : ℕ) → (listed q (set homes l (maybe.some list)) (set seats id w) ≡ 0)
+      sent : IsUntilFreeFirst list.items → ((q : ℕ) → times_on q list.items + (unlisted_times q w + in_round q v) ≤ times_on q found + (unlisted_times q v + in_round q w))
+          → ((k : ℕ) (want : Want) (q : ℕ) → (on_lists q (set homes l (maybe.some list)) (set seats id w) ≡ 0)
           ⊎ (hand_with k q want (hand_of l list.items) + may_be_listed k want q v ≤ hand_with k q want (hand_of l found) + may_be_listed k want q w))
           → LeavesRightly w → ListedOnce z.locks (set homes l (maybe.some list)) (set seats id w)
       sent first rounds may right = changed z.locks homes seats was id v at (set homes l (maybe.some list)) w
@@ -313,7 +313,7 @@ module _ (z : Size) (words : List ℕ) (homes : Homes) (seats : List Stance) (sl
     listed_turn after i x w (queues l p want found list below fits own place word joins home hand flagged told none free is) =
         let u : Stance = record v { hand = None; flagged = None; announced = false; round = true; queued = entry_of l want; due = due_of (entry_of l want) } in
         turned after (set homes l (maybe.some list)) w u home is (sent l found list below hand u refl (subst IsUntilFreeFirst (sym joins) (joined_first (waiter p want) found (first_in l found hand)))
-        (λ q. let a : times q list.items ≡ times q found + is_own q (Some p) = ap (times q) joins ∙ times_joined q (waiter p want) found in
+        (λ q. let a : times_on q list.items ≡ times_on q found + is_own q (Some p) = ap (times_on q) joins ∙ times_joined q (waiter p want) found in
         let b : in_round q v ≡ 0 = ap (λ (b : Bool). count_if b (is_own q v.own)) none in let c : in_round q u ≡ is_own q (Some p) = ap (is_own q) own in omega arith)
         (λ k wish q. inr (let a : hand_with k q wish (hand_of l list.items) ≡ hand_with k q wish (hand_of l (joined_by (waiter p want) found)) = ap (λ (ws : List Waiter). hand_with k q wish (hand_of l ws)) joins in
         let d = hand_joined l k p q want wish found in let b : may_be_listed k wish q v ≡ 0 = ap (λ (o : Option Entry). count_if (entry_is k wish o) (is_own q v.own)) free in
@@ -326,7 +326,7 @@ module _ (z : Size) (words : List ℕ) (homes : Homes) (seats : List Stance) (sl
         turned after homes w u home is (unmoved z.locks homes seats was id v at u refl (λ q. omega arith) (λ k wish q. omega arith)
         (λ here q answer mine. let same : p ≡ q = cc in let said : eqb (get_or words i 0) 1 ≡ here = cc in
         let field = own_field l p want found own hand queued below quiet here (ap (λ (j : ℕ). eqb (get_or words j 0) 1) (sym place) ∙ said) in
-        let list : times q (hand_list v.hand) ≡ times p found = times_in_hand q v (hand_of l found) hand ∙ ap (λ (j : ℕ). times j found) (sym same) in (λ yes. list ∙ field.0 yes, λ no. list ∙ field.1 no)))
+        let list : times_on q (hand_list v.hand) ≡ times_on p found = times_in_hand q v (hand_of l found) hand ∙ ap (λ (j : ℕ). times_on j found) (sym same) in (λ yes. list ∙ field.0 yes, λ no. list ∙ field.1 no)))
     listed_turn after i x w (leaves l p want found list below fits own place word left home hand flagged queued round on quiet is) =
         let u : Stance = record v { hand = None; leaving = None; round = false; queued = None; due = None; announced = true } in
         turned after (set homes l (maybe.some list)) w u home is (sent l found list below hand u refl (subst IsUntilFreeFirst (sym left) (without_first p found (first_in l found hand)))
@@ -337,40 +337,40 @@ module _ (z : Size) (words : List ℕ) (homes : Homes) (seats : List Stance) (sl
         let c = hand_le l k q wish list.items found (omega arith) in let d = may_else k wish p q own ne in omega arith)))
         (λ here q answer mine. absurd (cc)))
       where
-        gone : (q : ℕ) → times q list.items + is_own q (Some p) ≡ times q found
-        gone q = ap (λ (ws : List Waiter). times q ws + is_own q (Some p)) left ∙ times_left p found (sym (times_in_hand p v (hand_of l found) hand) ∙ (was.leaves id v at true p on own).0 refl) q
+        gone : (q : ℕ) → times_on q list.items + is_own q (Some p) ≡ times_on q found
+        gone q = ap (λ (ws : List Waiter). times_on q ws + is_own q (Some p)) left ∙ times_left p found (sym (times_in_hand p v (hand_of l found) hand) ∙ (was.leaves id v at true p on own).0 refl) q
     listed_turn after i x w (was_taken l p want found list below fits own place word left home hand flagged queued round off is) = let u : Stance = record v { hand = None; leaving = None; queued = None } in
         turned after (set homes l (maybe.some list)) w u home is (sent l found list below hand u refl (subst IsUntilFreeFirst (sym left) (first_in l found hand))
         (λ q. let a = same q in omega arith)
         (λ k wish q. dite (ℕ_discrete q p)
-        (λ me. inl (let a = same q in let b : times q found ≡ 0 = ap (λ (j : ℕ). times j found) me ∙ (sym (times_in_hand p v (hand_of l found) hand) ∙ (was.leaves id v at false p off own).1 refl) in
+        (λ me. inl (let a = same q in let b : times_on q found ≡ 0 = ap (λ (j : ℕ). times_on j found) me ∙ (sym (times_in_hand p v (hand_of l found) hand) ∙ (was.leaves id v at false p off own).1 refl) in
         let c = sent_listed l found list below hand u refl q in let d = own_listed l q want found (own ∙ ap Some (sym me)) hand queued in omega arith))
         (λ ne. inr (let a : hand_with k q wish (hand_of l list.items) ≡ hand_with k q wish (hand_of l found) = ap (λ (ws : List Waiter). hand_with k q wish (hand_of l ws)) left in let b = may_else k wish p q own ne in omega arith)))
         (λ here q answer mine. absurd (cc)))
       where
-        same : (q : ℕ) → times q list.items ≡ times q found
-        same q = ap (times q) left
+        same : (q : ℕ) → times_on q list.items ≡ times_on q found
+        same q = ap (times_on q) left
     listed_turn after i x w (withdraws p below own place word home none told is) = still after w home (ap sight is)
     listed_turn after i x w (marks l u found done rest below place word home hand marked within none is) = still after w home (ap sight is)
     listed_turn after i x w (detaches l found list below place word left home hand flagged marked none owed free is) = let u : Stance = record v { hand = None; marked = []; unlisted = taken_from found; owed = taken_from found } in
         turned after (set homes l (maybe.some list)) w u home is (sent l found list below hand u refl (subst IsUntilFreeFirst (sym left) (kept_first found (first_in l found hand)))
-        (λ q. let a : times q list.items ≡ times q (kept_from found) = ap (times q) left in let b = times_parted q found in omega arith)
+        (λ q. let a : times_on q list.items ≡ times_on q (kept_from found) = ap (times_on q) left in let b = times_parted q found in omega arith)
         (λ k wish q. inr (let a : times_with q wish list.items ≡ times_with q wish (kept_from found) = ap (times_with q wish) left in let b = times_with_parted q wish found in
         let c = hand_le l k q wish list.items found (omega arith) in omega arith))
         (λ here q answer mine. absurd (cc)))
     listed_turn after i x w (summons l found list below place word left home hand flagged marked none owed free is) = let u : Stance = record v { hand = None; marked = []; unlisted = until_free_from found; owed = until_free_from found } in
         turned after (set homes l (maybe.some list)) w u home is (sent l found list below hand u refl (subst IsUntilFreeFirst (sym left) (lockers_ordered found (first_in l found hand)))
-        (λ q. let a : times q list.items ≡ times q (lockers_from found) = ap (times q) left in let b = times_headed q found in omega arith)
+        (λ q. let a : times_on q list.items ≡ times_on q (lockers_from found) = ap (times_on q) left in let b = times_headed q found in omega arith)
         (λ k wish q. inr (let a : times_with q wish list.items ≡ times_with q wish (lockers_from found) = ap (times_with q wish) left in let b = times_with_headed q wish found in
         let c = hand_le l k q wish list.items found (omega arith) in omega arith))
         (λ here q answer mine. absurd (cc)))
     listed_turn after i x w (returns l found list below place word left home hand flagged marked free is) = let u : Stance = record v { hand = None } in
         turned after (set homes l (maybe.some list)) w u home is (sent l found list below hand u refl (subst IsUntilFreeFirst (sym left) (first_in l found hand))
-        (λ q. let a : times q list.items ≡ times q found = ap (times q) left in omega arith)
+        (λ q. let a : times_on q list.items ≡ times_on q found = ap (times_on q) left in omega arith)
         (λ k wish q. inr (let a : hand_with k q wish (hand_of l list.items) ≡ hand_with k q wish (hand_of l found) = ap (λ (ws : List Waiter). hand_with k q wish (hand_of l ws)) left in omega arith))
         (λ here q answer mine. absurd (cc)))
     listed_turn after i x w (unmarks t ts below place word home marked is) = let u : Stance = record v { unlisted = ts } in
-        turned after homes w u home is (unmoved z.locks homes seats was id v at u refl (λ q. let a : unlisted_times q v ≡ times q (t ∷ ts) = ap (times q) marked in omega arith) (λ k wish q. omega arith) (was.leaves id v at))
+        turned after homes w u home is (unmoved z.locks homes seats was id v at u refl (λ q. let a : unlisted_times q v ≡ times_on q (t ∷ ts) = ap (times_on q) marked in omega arith) (λ k wish q. omega arith) (was.leaves id v at))
     listed_turn after i x w (posts u us below place word home owed cleared is) = still after w home (ap sight is)
     listed_turn after i x w (sees p below own place word some home free is) = still after w home (ap sight is)
     listed_turn after i x w (sleeps_down p below own place word home down free is) = still after w home (ap sight is)
@@ -387,7 +387,7 @@ module _ (z : Size) (words : List ℕ) (homes : Homes) (seats : List Stance) (sl
         (λ here q answer mine. absurd (cc)) was.ordered_home (was.ordered_hand id v at))
       where
         -- the field that is 0 tells it
-        nowhere : (q : ℕ) → q ≡ p → (listed q homes seats ≡ 0) × (total (unlisted_times q) seats ≡ 0)
+        nowhere : (q : ℕ) → q ≡ p → (on_lists q homes seats ≡ 0) × (total (unlisted_times q) seats ≡ 0)
         nowhere q me = let field : get_or words (waiting_at z q) 0 ≡ 0 = ap (λ (j : ℕ). get_or words (waiting_at z j) 0) me ∙ (ap (λ (j : ℕ). get_or words j 0) (sym place) ∙ clear) in
             let reads = waiting q (omega arith) in let parts = adds_parts q seats in (omega arith, omega arith)
     listed_turn after i x w (oversleeps p below own place word some home between is) = still after w home (ap sight is)

@@ -7,7 +7,7 @@ use Rattle.seat_roster.specs.Totals.{total}
 use Rattle.lw_core.specs.declared.view.Want.{Want}
 use Rattle.lw_core.specs.declared.view.Want.TheVariants.{Shared, Exclusive, UntilFree}
 use Rattle.lw_core.specs.declared.view.Waiter.{Waiter}
-use Rattle.lw_core.specs.WaitLists.{same_want, times, times_with, HasNoUntilFree, IsUntilFreeFirst, joined_by, without, taken_after, kept_after, taken_from, kept_from, until_free_from, lockers_from, has_locker, is_empty}
+use Rattle.lw_core.specs.WaitLists.{same_want, times_on, times_with, HasNoUntilFree, IsUntilFreeFirst, joined_by, without, taken_after, kept_after, taken_from, kept_from, until_free_from, lockers_from, has_locker, is_empty}
 
 -- whatever is counted on a list: once a waiter joined it, after one left it, and where it is parted
 module _ (f : Waiter → ℕ) where
@@ -48,7 +48,7 @@ module _ (f : Waiter → ℕ) where
       by_want true r = omega arith
       by_want false r = omega arith
 
--- what `times` and `times_with` count of one waiter
+-- what `times_on` and `times_with` count of one waiter
 abbrev is_proc : ℕ → Waiter → ℕ
 is_proc p w = cond (eqb w.proc p) 1 0
 
@@ -56,64 +56,64 @@ abbrev is_proc_with : ℕ → Want → Waiter → ℕ
 is_proc_with p want w = cond (eqb w.proc p) (cond (same_want w.want want) 1 0) 0
 
 -- how often p is on a list
-pub times_here : (p : ℕ) (w : Waiter) (ws : List Waiter) → p ≡ w.proc → times p (w ∷ ws) ≡ 1 + times p ws
-times_here p w ws is = ap (λ (n : ℕ). n + times p ws) (cond-true (eqb w.proc p) 1 0 (eq-eqb w.proc p (sym is)))
+pub times_here : (p : ℕ) (w : Waiter) (ws : List Waiter) → p ≡ w.proc → times_on p (w ∷ ws) ≡ 1 + times_on p ws
+times_here p w ws is = ap (λ (n : ℕ). n + times_on p ws) (cond-true (eqb w.proc p) 1 0 (eq-eqb w.proc p (sym is)))
 
-pub times_else : (p : ℕ) (w : Waiter) (ws : List Waiter) → p ≢ w.proc → times p (w ∷ ws) ≡ 0 + times p ws
-times_else p w ws ne = ap (λ (n : ℕ). n + times p ws) (cond-false (eqb w.proc p) 1 0 (ne_eqb w.proc p (λ is. ne (sym is))))
+pub times_else : (p : ℕ) (w : Waiter) (ws : List Waiter) → p ≢ w.proc → times_on p (w ∷ ws) ≡ 0 + times_on p ws
+times_else p w ws ne = ap (λ (n : ℕ). n + times_on p ws) (cond-false (eqb w.proc p) 1 0 (ne_eqb w.proc p (λ is. ne (sym is))))
 
-pub times_append : (p : ℕ) (ws us : List Waiter) → times p (ws ++ us) ≡ times p ws + times p us
+pub times_append : (p : ℕ) (ws us : List Waiter) → times_on p (ws ++ us) ≡ times_on p ws + times_on p us
 times_append p ws us = total_append (is_proc p) ws us
 
-pub times_joined : (p : ℕ) (w : Waiter) (ws : List Waiter) → times p (joined_by w ws) ≡ times p ws + cond (eqb w.proc p) 1 0
+pub times_joined : (p : ℕ) (w : Waiter) (ws : List Waiter) → times_on p (joined_by w ws) ≡ times_on p ws + cond (eqb w.proc p) 1 0
 times_joined p w ws = total_joined (is_proc p) w ws
 
 pub times_with_joined : (p : ℕ) (want : Want) (w : Waiter) (ws : List Waiter) → times_with p want (joined_by w ws) ≡ times_with p want ws + cond (eqb w.proc p) (cond (same_want w.want want) 1 0) 0
 times_with_joined p want w ws = total_joined (is_proc_with p want) w ws
 
-pub times_without : (p : ℕ) (ws : List Waiter) → times p (without p ws) ≡ 0
+pub times_without : (p : ℕ) (ws : List Waiter) → times_on p (without p ws) ≡ 0
 times_without p [] = refl
 times_without p (w ∷ ws) = by_test (eqb w.proc p) refl (times_without p ws)
   where
-    by_test : (is : Bool) → eqb w.proc p ≡ is → times p (without p ws) ≡ 0 → times p (cond is (without p ws) (w ∷ without p ws)) ≡ 0
+    by_test : (is : Bool) → eqb w.proc p ≡ is → times_on p (without p ws) ≡ 0 → times_on p (cond is (without p ws) (w ∷ without p ws)) ≡ 0
     by_test true e r = r
     by_test false e r = let a : is_proc p w ≡ 0 = ap (λ (b : Bool). cond b 1 0) e in omega arith
 
-pub times_without_other : (q p : ℕ) (ws : List Waiter) → q ≢ p → times q (without p ws) ≡ times q ws
+pub times_without_other : (q p : ℕ) (ws : List Waiter) → q ≢ p → times_on q (without p ws) ≡ times_on q ws
 times_without_other q p [] ne = refl
 times_without_other q p (w ∷ ws) ne = by_test (eqb w.proc p) refl (times_without_other q p ws ne)
   where
-    by_test : (is : Bool) → eqb w.proc p ≡ is → times q (without p ws) ≡ times q ws → times q (cond is (without p ws) (w ∷ without p ws)) ≡ times q (w ∷ ws)
+    by_test : (is : Bool) → eqb w.proc p ≡ is → times_on q (without p ws) ≡ times_on q ws → times_on q (cond is (without p ws) (w ∷ without p ws)) ≡ times_on q (w ∷ ws)
     by_test true e r = let a : is_proc q w ≡ 0 = ap (λ (b : Bool). cond b 1 0) (ne_eqb w.proc q (λ same. ne (sym same ∙ eqb-true _ _ e))) in omega arith
     by_test false e r = omega arith
 
-pub times_without_le : (q p : ℕ) (ws : List Waiter) → times q (without p ws) ≤ times q ws
+pub times_without_le : (q p : ℕ) (ws : List Waiter) → times_on q (without p ws) ≤ times_on q ws
 times_without_le q p ws = total_without (is_proc q) p ws
 
 -- one who is on the list once leaves it
-pub times_left : (p : ℕ) (ws : List Waiter) → times p ws ≡ 1 → (q : ℕ) → times q (without p ws) + cond (eqb p q) 1 0 ≡ times q ws
+pub times_left : (p : ℕ) (ws : List Waiter) → times_on p ws ≡ 1 → (q : ℕ) → times_on q (without p ws) + cond (eqb p q) 1 0 ≡ times_on q ws
 times_left p ws once q = dite (ℕ_discrete q p)
-    (λ is. subst (λ (n : ℕ). times n (without p ws) + cond (eqb p n) 1 0 ≡ times n ws) (sym is) (let none = times_without p ws in let one = cond-true {A = ℕ} (eqb p p) 1 0 (eq-eqb p p refl) in omega arith))
+    (λ is. subst (λ (n : ℕ). times_on n (without p ws) + cond (eqb p n) 1 0 ≡ times_on n ws) (sym is) (let none = times_without p ws in let one = cond-true {A = ℕ} (eqb p p) 1 0 (eq-eqb p p refl) in omega arith))
     (λ ne. let same = times_without_other q p ws ne in let none = cond-false {A = ℕ} (eqb p q) 1 0 (ne_eqb p q (λ is. ne (sym is))) in omega arith)
 
 pub times_with_without : (q p : ℕ) (want : Want) (ws : List Waiter) → times_with q want (without p ws) ≤ times_with q want ws
 times_with_without q p want ws = total_without (is_proc_with q want) p ws
 
-pub times_parted : (p : ℕ) (ws : List Waiter) → times p (taken_from ws) + times p (kept_from ws) ≡ times p ws
+pub times_parted : (p : ℕ) (ws : List Waiter) → times_on p (taken_from ws) + times_on p (kept_from ws) ≡ times_on p ws
 times_parted p ws = total_parted (is_proc p) false ws
 
 pub times_with_parted : (p : ℕ) (want : Want) (ws : List Waiter) → times_with p want (taken_from ws) + times_with p want (kept_from ws) ≡ times_with p want ws
 times_with_parted p want ws = total_parted (is_proc_with p want) false ws
 
 -- on the list are those at its head who wait until the lock is free, and those behind them
-pub times_headed : (p : ℕ) (ws : List Waiter) → times p (until_free_from ws) + times p (lockers_from ws) ≡ times p ws
+pub times_headed : (p : ℕ) (ws : List Waiter) → times_on p (until_free_from ws) + times_on p (lockers_from ws) ≡ times_on p ws
 times_headed p ws = total_headed (is_proc p) ws
 
 pub times_with_headed : (p : ℕ) (want : Want) (ws : List Waiter) → times_with p want (until_free_from ws) + times_with p want (lockers_from ws) ≡ times_with p want ws
 times_with_headed p want ws = total_headed (is_proc_with p want) ws
 
 -- with some want, and with each
-pub times_by_want : (p : ℕ) (ws : List Waiter) → times p ws ≡ times_with p Shared ws + (times_with p Exclusive ws + times_with p UntilFree ws)
+pub times_by_want : (p : ℕ) (ws : List Waiter) → times_on p ws ≡ times_with p Shared ws + (times_with p Exclusive ws + times_with p UntilFree ws)
 times_by_want p [] = refl
 times_by_want p (w ∷ ws) = let r = times_by_want p ws in let one = by_want w.want (eqb w.proc p) in omega arith
   where
@@ -123,13 +123,13 @@ times_by_want p (w ∷ ws) = let r = times_by_want p ws in let one = by_want w.w
     by_want Exclusive true = refl
     by_want UntilFree true = refl
 
-pub times_with_le : (p : ℕ) (want : Want) (ws : List Waiter) → times_with p want ws ≤ times p ws
+pub times_with_le : (p : ℕ) (want : Want) (ws : List Waiter) → times_with p want ws ≤ times_on p ws
 times_with_le p Shared ws = let each = times_by_want p ws in omega arith
 times_with_le p Exclusive ws = let each = times_by_want p ws in omega arith
 times_with_le p UntilFree ws = let each = times_by_want p ws in omega arith
 
 -- who is on a list is on it with some want
-pub some_want : (p : ℕ) (ws : List Waiter) → 1 ≤ times p ws → (want : Want) × (1 ≤ times_with p want ws)
+pub some_want : (p : ℕ) (ws : List Waiter) → 1 ≤ times_on p ws → (want : Want) × (1 ≤ times_with p want ws)
 some_want p ws some = let each = times_by_want p ws in dite (ℕ_discrete (times_with p Shared ws) 0)
     (λ a. dite (ℕ_discrete (times_with p Exclusive ws) 0) (λ b. (UntilFree, omega arith)) (λ b. (Exclusive, omega arith)))
     (λ a. (Shared, omega arith))
@@ -282,7 +282,7 @@ length_none [] e = refl
 length_none (w ∷ ws) e = absurd (cc)
 
 -- nobody is on a list more often than it is long
-pub times_length : (p : ℕ) (ws : List Waiter) → times p ws ≤ length ws
+pub times_length : (p : ℕ) (ws : List Waiter) → times_on p ws ≤ length ws
 times_length p [] = omega arith
 times_length p (w ∷ ws) = let r = times_length p ws in let one = one_most (eqb w.proc p) in omega arith
   where

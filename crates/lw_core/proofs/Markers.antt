@@ -11,8 +11,8 @@ use Rattle.seat_roster.proofs.Numbers as numbers
 use Rattle.seat_roster.proofs.Stretches.{each_set, each_more}
 use Rattle.lw_core.specs.declared.view.Size.{Size}
 use Rattle.lw_core.specs.Words.{waiting_at}
-use Rattle.lw_core.specs.WaitLists.{times}
-use Rattle.lw_core.specs.Stances.{Stance, is_own, count_if, hand_times, listed, in_round}
+use Rattle.lw_core.specs.WaitLists.{times_on}
+use Rattle.lw_core.specs.Stances.{Stance, is_own, count_if, hand_times, on_lists, in_round}
 use Rattle.lw_core.specs.WaitingTellsPlace.{adds_to, WaitingTellsPlace}
 use Rattle.lw_core.specs.WakesAreConserved.{spends, earns, WakesAreConserved}
 use Rattle.lw_core.specs.MarkersPost.{PostsMarked, spares, poked_times, MarkersPost}
@@ -22,7 +22,7 @@ use Rattle.lw_core.proofs.Balance.{down_there}
 
 -- the posts that a seat owes p; 1 where p took its semaphore down in a sleep; and how often a `down` of p ended
 abbrev pub owed_times : ℕ → Stance → ℕ
-owed_times p v = times p v.owed
+owed_times p v = times_on p v.owed
 
 abbrev pub sleeps_between : ℕ → Stance → ℕ
 sleeps_between p v = count_if v.between (is_own p v.own)
@@ -40,7 +40,7 @@ earns_parts p seats = total_both (poked_times p) (in_round p) seats
 module _ (z : Size) (words : List ℕ) (homes : Homes) (seats : List Stance) (alone : (p : ℕ) → total (λ (u : Stance). is_own p u.own) seats ≤ 1) (sound : (j : ℕ) (u : Stance) → get_elem? seats j ≡ maybe.some u → IsSound u)
     (told : WaitingTellsPlace z words homes seats) (have : MarkersPost z seats) where
   -- whose waiting field isn't 0, and who neither announced that it waits nor left a list, is on a list or is owed a post
-  pub listed_or_owed : (p : ℕ) → p < z.procs → get_or words (waiting_at z p) 0 ≢ 0 → total (announces_for p) seats ≡ 0 → 1 ≤ listed p homes seats + total (owed_times p) seats
+  pub listed_or_owed : (p : ℕ) → p < z.procs → get_or words (waiting_at z p) 0 ≢ 0 → total (announces_for p) seats ≡ 0 → 1 ≤ on_lists p homes seats + total (owed_times p) seats
   listed_or_owed p below some none = let field = told p below in
       let most = total_le (adds_to p) (λ (u : Stance). announces_for p u + (hand_times p u + (owed_times p u + owed_times p u))) seats (λ i u e. let marked = (sound i u e).marked p in let owed = have.posts i u e p in omega arith) in
       let a = total_both (announces_for p) (λ (u : Stance). hand_times p u + (owed_times p u + owed_times p u)) seats in let b = total_both (hand_times p) (λ (u : Stance). owed_times p u + owed_times p u) seats in
@@ -112,8 +112,8 @@ module _ (z : Size) (words : List ℕ) (homes : Homes) (seats : List Stance) (al
     markers_turn after i x w (summons l found list _ _ _ _ _ _ _ _ _ _ _ is) = by w _ is (spared _ (λ p. omega arith) (λ p. omega arith))
     markers_turn after i x w (returns _ _ _ _ _ _ _ _ _ _ _ _ is) = aside w (ap sight is)
     markers_turn after i x w (unmarks u us _ _ _ _ unlisted is) = by w _ is (spared _
-        (λ p. let mine = have.posts id v at p in let one : times p v.unlisted ≡ is_own p (Some u.proc) + times p us = ap (times p) unlisted in omega arith) (λ p. omega arith))
-    markers_turn after i x w (posts u us _ _ _ _ _ unlisted is) = by w _ is (spared _ (λ p. let same : times p v.unlisted ≡ times p us = ap (times p) unlisted in omega arith) (λ p. omega arith))
+        (λ p. let mine = have.posts id v at p in let one : times_on p v.unlisted ≡ is_own p (Some u.proc) + times_on p us = ap (times_on p) unlisted in omega arith) (λ p. omega arith))
+    markers_turn after i x w (posts u us _ _ _ _ _ unlisted is) = by w _ is (spared _ (λ p. let same : times_on p v.unlisted ≡ times_on p us = ap (times_on p) unlisted in omega arith) (λ p. omega arith))
     markers_turn after i x w (sees _ _ _ _ _ _ _ _ is) = aside w (ap sight is)
     markers_turn after i x w (sleeps_down _ _ _ _ _ _ _ _ is) = aside w (ap sight is)
     markers_turn after i x w (calls_down p below own _ _ _ down round is) = by w _ is (spared_more p _ (called_room z words homes seats alone sound told have id p v at own was below down round) (have.posts id v at)

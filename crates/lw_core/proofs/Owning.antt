@@ -7,8 +7,8 @@ use Rattle.seat_roster.specs.Totals.{total}
 use Rattle.seat_roster.proofs.Totals.{total_le, total_sum_le, total_only}
 use Rattle.lw_core.specs.declared.view.Want.{Want}
 use Rattle.lw_core.specs.declared.view.Waiter.{Waiter}
-use Rattle.lw_core.specs.WaitLists.{times}
-use Rattle.lw_core.specs.Stances.{Stance, Hand, Entry, hand_of, hand_times, entry_of, entry_is, is_own, own_amount, count_if, listed, in_round, unlisted_times}
+use Rattle.lw_core.specs.WaitLists.{times_on}
+use Rattle.lw_core.specs.Stances.{Stance, Hand, Entry, hand_of, hand_times, entry_of, entry_is, is_own, own_amount, count_if, on_lists, in_round, unlisted_times}
 use Rattle.lw_core.specs.ListedOnce.{OncePerRound}
 use Rattle.lw_core.specs.WaitingTellsPlace.{adds_to}
 use Rattle.lw_core.proofs.Lists.{same_want_is}
@@ -87,7 +87,7 @@ abbrev pub announces_for : ℕ → Stance → ℕ
 announces_for p v = count_if v.announced (is_own p v.own)
 
 abbrev pub marked_times : ℕ → Stance → ℕ
-marked_times p v = times p v.marked
+marked_times p v = times_on p v.marked
 
 -- the parts of a waiting field: who announced, who is marked on a list, and who is marked off it
 pub adds_parts : (p : ℕ) (seats : List Stance) → total (adds_to p) seats ≡ total (announces_for p) seats + (total (marked_times p) seats + 2 * total (unlisted_times p) seats)
@@ -115,7 +115,7 @@ module _ (seats : List Stance) (alone : (p : ℕ) → total (λ (u : Stance). is
     out_of_round not = own_counts (λ (u : Stance). u.round) ∙ ap (λ (b : Bool). count_if b (is_own p v.own)) not
 
     -- who isn't in a round is on no list, and isn't marked off one
-    pub not_listed : (homes : Homes) → OncePerRound homes seats → v.round ≡ false → (listed p homes seats ≡ 0) × (total (unlisted_times p) seats ≡ 0)
+    pub not_listed : (homes : Homes) → OncePerRound homes seats → v.round ≡ false → (on_lists p homes seats ≡ 0) × (total (unlisted_times p) seats ≡ 0)
     not_listed homes once not = let none = out_of_round not in let all = once p in (omega arith, omega arith)
 
 -- those who are marked are on lists in hand

@@ -13,7 +13,7 @@ use Rattle.lw_core.specs.declared.view.Size.{Size}
 use Rattle.lw_core.specs.declared.view.Waiter.{Waiter}
 use Rattle.seat_roster.specs.Totals.{total}
 use Rattle.lw_core.specs.Words.{Waiters, state_at, guard_at, waiting_at, sem_at, grant_of, locked, has_flag, guarded, word_count, Opens}
-use Rattle.lw_core.specs.WaitLists.{AllEmpty, IsUntilFreeFirst, times, times_with, home_of, home_list}
+use Rattle.lw_core.specs.WaitLists.{AllEmpty, IsUntilFreeFirst, times_on, times_with, home_of, home_list}
 use Rattle.lw_core.specs.Machine.{LwState, top, outer, not_held, held, hold_in, moved, gripped, on_grant, let_go, fresh, IsInRange, number_of, lock_number, mode_in, word_of, becomes, next, carried, act_of, takes_list, sends_home, as_waiters, left_at, Allowed, after, HoldsNothing, releasing, guard_hold, guard_becomes, guard_writes}
 use Rattle.lw_core.specs.Stances.{Stance, hand_list, home_times, own_amount, downing_at, stance_of}
 use Rattle.lw_core.specs.SeatFits.{Seating, SeatFits}
@@ -38,6 +38,8 @@ use Rattle.lw_core.proofs.Guarding.{knows_not_held}
 use Rattle.lw_core.proofs.Touches.{hold_here, top_is, fresh_hold, guards_held}
 use Rattle.lw_core.proofs.Roster.{roster_step, roster_draw, roster_split, roster_join}
 use Rattle.lw_core.proofs.WordsAreMade.{made_step, made_draw, made_split, made_join, made_opens}
+use Rattle.lw_core.specs.FramesStand.{AllStand}
+use Rattle.lw_core.proofs.FramesStand.{frames_step, frames_draw, frames_split, frames_join}
 use Rattle.lw_core.proofs.Places.{places_step, places_draw, places_split, places_join, fresh_fits}
 use Rattle.lw_core.proofs.Places as places
 use Rattle.lw_core.proofs.Counts.{counts_step, counts_draw, counts_split, counts_join, inside_holds}
@@ -75,6 +77,13 @@ module _ (lawful : ℕ → List ℕ → Type 0) (z : Size) (s : LwState) (r : Ru
     there : get_elem? seats id ≡ maybe.some (stance_of v)
     there = seat_at lawful z s r id v at
 
+    tells_list : (l : ℕ) → l < z.locks → (v.own ≡ None → ⊥) → has_flag locked (get_or s.words (state_at l) 0) ≡ 0 → TellsList z v (home_list s.homes l)
+    tells_list l below numbered clear = let own = numbered_as lawful z s r id v at numbered in let home = (r.lists l below).at_home clear in
+        subst (TellsList z v) (sym (ap home_of home.1)) (room_on_list z.procs s.homes seats (alone lawful z s r) r.listed.once numbers l home.0 home.1 (number_of v.own) id (stance_of v) there own)
+      where
+        numbers : (j q : ℕ) (u : Stance) → get_elem? seats j ≡ maybe.some u → u.own ≡ Some q → q < z.procs
+        numbers j q u e own = let seat = from_seen stance_of s.views j u e in number_below z.procs (get_or s.words 0 0) s.views r.roster j q seat.0 seat.1 (ap (λ (x : Stance). x.own) seat.2 ∙ own)
+
     -- THE RULE AFTER A STEP
     pub rule_step : (k : LwStep) → IsInRange z k → (v.own ≡ None → ⊥) → Allowed lawful k v → Rule lawful z (after z s id v k)
     rule_step k inside numbered ok =
@@ -110,6 +119,7 @@ module _ (lawful : ℕ → List ℕ → Type 0) (z : Size) (s : LwState) (r : Ru
           roster = roster_after;
           made = made_step lawful z s r id v at k inside numbered ok;
           places = places_after;
+          frames = frames_step lawful z s r id v at (λ l below clear. (tells_list l below numbered clear).0) k inside ok;
           counts = counts_after;
           guarded = guards_step lawful z s r id v at k inside numbered ok;
           lists = lists_after;
@@ -129,13 +139,6 @@ module _ (lawful : ℕ → List ℕ → Type 0) (z : Size) (s : LwState) (r : Ru
     granted l w n m found inside hit = let k : LwStep = kind.Grant l m w in
         subst (λ (b : Bool). hold_in l (cond b (gripped v k l n (on_grant v.surplus (outer v.place)) (held m) (v.grants + 1)) (moved v k n (Trying l m n ∷ outer v.place))) ≡ held m) (sym (eq-eqb n w hit))
         (hold_here v k l n (on_grant v.surplus (outer v.place)) (held m) (v.grants + 1) (inside_holds lawful z s r id v at l inside))
-
-    tells_list : (l : ℕ) → l < z.locks → (v.own ≡ None → ⊥) → has_flag locked (get_or s.words (state_at l) 0) ≡ 0 → TellsList z v (home_list s.homes l)
-    tells_list l below numbered clear = let own = numbered_as lawful z s r id v at numbered in let home = (r.lists l below).at_home clear in
-        subst (TellsList z v) (sym (ap home_of home.1)) (room_on_list z.procs s.homes seats (alone lawful z s r) r.listed.once numbers l home.0 home.1 (number_of v.own) id (stance_of v) there own)
-      where
-        numbers : (j q : ℕ) (u : Stance) → get_elem? seats j ≡ maybe.some u → u.own ≡ Some q → q < z.procs
-        numbers j q u e own = let seat = from_seen stance_of s.views j u e in number_below z.procs (get_or s.words 0 0) s.views r.roster j q seat.0 seat.1 (ap (λ (x : Stance). x.own) seat.2 ∙ own)
 
     pub sem_small : (p : ℕ) → p < z.procs → get_or s.words (sem_at z p) 0 < 2 ^ 32
     sem_small p below = let a = sem_bound z s.words s.homes seats r.wakes (alone lawful z s r) 67108864 (few_poked lawful z s r) p below in omega arith
@@ -179,6 +182,7 @@ module _ (lawful : ℕ → List ℕ → Type 0) (z : Size) (s : LwState) (r : Ru
           roster = roster_draw lawful z s r id v at zero_is free more;
           made = made_draw lawful z s r id v at;
           places = places_draw lawful z s r id v at;
+          frames = frames_draw lawful z s r id v at;
           counts = counts_draw lawful z s r id v at;
           guarded = guards_draw lawful z s r id v at;
           lists = λ l below. for_same _ _ same (λ (xs : List Stance). ListInOneHand l (get_or (set s.words 0 (n + 1)) (state_at l) 0) (get_elem? s.homes l) xs)
@@ -203,6 +207,7 @@ module _ (lawful : ℕ → List ℕ → Type 0) (z : Size) (s : LwState) (r : Ru
           roster = roster_split lawful z s r id v at;
           made = made_split lawful z s r id v at;
           places = places_split lawful z s r id v at;
+          frames = frames_split lawful z s r id v at;
           counts = counts_split lawful z s r id v at;
           guarded = guards_split lawful z s r id v at;
           lists = λ l below. for_same _ _ looks (ListInOneHand l (get_or s.words (state_at l) 0) (get_elem? s.homes l)) (hands_more l _ _ seats v.pending (r.lists l below));
@@ -230,6 +235,7 @@ module _ (lawful : ℕ → List ℕ → Type 0) (z : Size) (s : LwState) (r : Ru
           roster = roster_join lawful z s r id v at other w behind settled;
           made = made_join lawful z s r id v at other w apart from;
           places = places_join lawful z s r id v at other w behind from;
+          frames = frames_join lawful z s r id v at other w;
           counts = counts_join lawful z s r id v at other w behind empty;
           guarded = guards_join lawful z s r id v at other w behind empty;
           lists = λ l below. for_same _ _ looks (ListInOneHand l (get_or s.words (state_at l) 0) (get_elem? s.homes l)) (hands_joined l _ _ seats id other (stance_of v) w.own w.poked w.downed there theirs (r.lists l below));
@@ -271,7 +277,7 @@ module _ (lawful : ℕ → List ℕ → Type 0) (z : Size) where
 
     none_listed : (xs : List Waiters) (p : ℕ) → AllEmpty xs → total (home_times p) (map maybe.some xs) ≡ 0
     none_listed [] p e = refl
-    none_listed (x ∷ xs) p e = let a = none_listed xs p e.1 in let b : times p x.items ≡ 0 = ap (times p) e.0 in omega arith
+    none_listed (x ∷ xs) p e = let a = none_listed xs p e.1 in let b : times_on p x.items ≡ 0 = ap (times_on p) e.0 in omega arith
 
     one_seat : (id : ℕ) (v : Stance) → get_elem? (start ∷ []) id ≡ maybe.some v → start ≡ v
     one_seat zero v e = maybe.some-injective start v e
@@ -293,6 +299,7 @@ module _ (lawful : ℕ → List ℕ → Type 0) (z : Size) where
       roster = subst (λ (n : ℕ). Roster z.procs n (numbered (Some 0) ∷ [])) (sym h.0) (roster_first z.procs some);
       made = made_opens z words (Some 0) h;
       places = λ id u e. first_fits id u e;
+      frames = λ id u e. first_stands id u e;
       counts = λ l below. let e = h.1 l below in let none : mode_in l (fresh (Some 0)) ≡ None = ap (λ (x : Hold). x.mode) (fresh_hold (Some 0) l) in
           let a : is_exclusive (mode_in l (fresh (Some 0))) ≡ 0 = ap is_exclusive none in let b : is_shared (mode_in l (fresh (Some 0))) ≡ 0 = ap is_shared none in
           record { fits = omega arith; counted = omega arith; alone = λ holds. omega arith };
@@ -311,7 +318,7 @@ module _ (lawful : ℕ → List ℕ → Type 0) (z : Size) where
         there = λ p below. omega arith;
       };
       markers = record {
-        posts = λ id v e p. subst (λ (u : Stance). times p u.unlisted ≤ times p u.owed) (one_seat id v e) (omega arith);
+        posts = λ id v e p. subst (λ (u : Stance). times_on p u.unlisted ≤ times_on p u.owed) (one_seat id v e) (omega arith);
         poked = λ p below. let b = no_amount p in omega arith;
       };
       free = free_opens z words lists (Some 0);
@@ -331,6 +338,10 @@ module _ (lawful : ℕ → List ℕ → Type 0) (z : Size) where
         first_fits : (id : ℕ) (u : Seating) → get_elem? (seating_of (fresh (Some 0)) ∷ []) id ≡ maybe.some u → SeatFits u
         first_fits zero u e = subst SeatFits (maybe.some-injective _ _ e) (fresh_fits (Some 0))
         first_fits (suc id) u e = absurd (maybe.some-ne-none u (sym e))
+
+        first_stands : (id : ℕ) (u : View) → get_elem? (fresh (Some 0) ∷ []) id ≡ maybe.some u → AllStand lawful z u.holds u.place
+        first_stands zero u e = subst (λ (x : View). AllStand lawful z x.holds x.place) (maybe.some-injective _ _ e) tt
+        first_stands (suc id) u e = absurd (maybe.some-ne-none u (sym e))
 
         clear : (l k : ℕ) → k < 4 → get_or words (guard_at l k) 0 ≡ 0
         clear l k few = h.2 (guard_at l k) (omega arith) (λ j below e. omega arith)

@@ -10,7 +10,7 @@ use Rattle.seat_roster.proofs.Stretches.{at_seen}
 use Rattle.lw_core.specs.declared.view.Frame.TheVariants.{Attempting, Trying, Queued, TakingList, Spinning, Appending, Dequeueing, Checking, Removing, Withdrawing, Looking, Asleep, Downing, Sleeping, Marking, Detaching, Peeking, Comparing, Reading, Returning, Allowing, VarQueued, Calling}
 use Rattle.lw_core.specs.declared.view.Hold.{Hold}
 use Rattle.lw_core.specs.declared.view.View.{View}
-use Rattle.lw_core.specs.WaitLists.{times}
+use Rattle.lw_core.specs.WaitLists.{times_on}
 use Rattle.lw_core.specs.Machine.{Place}
 use Rattle.lw_core.specs.SeatFits.{PlaceFits, SeatFits}
 use Rattle.lw_core.specs.Stances.{Stance, Entry, hand_list, hand_at, announced_at, round_at, queued_at, sleep_entry, sleeps, due_at, due_of, leaving_at, marked_at, is_own, stance_of}
@@ -18,9 +18,9 @@ use Rattle.lw_core.specs.Rule.{numbers_of, seating_of}
 use Rattle.lw_core.proofs.Lists.{times_append, times_parted, times_headed}
 use Rattle.lw_core.proofs.Turns.{IsSound}
 
-marked_in_hand : (holds : List Hold) (s p : ℕ) (place : Place) → PlaceFits holds s place → times p (marked_at place) ≤ times p (hand_list (hand_at place))
-marked_in_hand holds s p (Marking l updated found marked rest ∷ q) fits = let a = times_append p marked rest in let b = ap (times p) fits.0 in let c = times_parted p found in omega arith
-marked_in_hand holds s p (Calling l found marked rest ∷ q) fits = let a = times_append p marked rest in let b = ap (times p) fits.0 in let c = times_headed p found in omega arith
+marked_in_hand : (holds : List Hold) (s p : ℕ) (place : Place) → PlaceFits holds s place → times_on p (marked_at place) ≤ times_on p (hand_list (hand_at place))
+marked_in_hand holds s p (Marking l updated found marked rest ∷ q) fits = let a = times_append p marked rest in let b = ap (times_on p) fits.0 in let c = times_parted p found in omega arith
+marked_in_hand holds s p (Calling l found marked rest ∷ q) fits = let a = times_append p marked rest in let b = ap (times_on p) fits.0 in let c = times_headed p found in omega arith
 marked_in_hand holds s p (Detaching l updated found w ∷ q) fits = let c = times_parted p found in omega arith
 marked_in_hand holds s p place fits = omega arith
 

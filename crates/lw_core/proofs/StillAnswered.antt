@@ -9,8 +9,8 @@ use Rattle.seat_roster.proofs.Totals.{total_at, total_two}
 use Rattle.lw_core.specs.declared.view.Size.{Size}
 use Rattle.lw_core.specs.declared.view.Waiter.{Waiter}
 use Rattle.lw_core.specs.Words.{Waiters}
-use Rattle.lw_core.specs.WaitLists.{waiter, times, without, kept_from, lockers_from}
-use Rattle.lw_core.specs.Stances.{Stance, Hand, hand_of, hand_list, hand_times, is_own, listed}
+use Rattle.lw_core.specs.WaitLists.{waiter, times_on, without, kept_from, lockers_from}
+use Rattle.lw_core.specs.Stances.{Stance, Hand, hand_of, hand_list, hand_times, is_own, on_lists}
 use Rattle.lw_core.specs.ListedOnce.{ListedOnce}
 use Rattle.lw_core.specs.ReleaseOkIsOwed.{Answers}
 use Rattle.lw_core.proofs.Turns.{Homes, Turn, stays, takes, flags, announces, queues, checks, leaves, was_taken, withdraws, marks, detaches, summons, returns, unmarks, posts, sees, sleeps_down, calls_down, wakes, oversleeps, gives_back, answers, allows, pokes, IsSound}
@@ -36,41 +36,41 @@ module _ (z : Size) (words : List ℕ) (homes : Homes) (seats : List Stance)
     (out : (j l : ℕ) (u : Stance) (found : List Waiter) → get_elem? seats j ≡ maybe.some u → l < z.locks → u.hand ≡ hand_of l found → get_elem? homes l ≡ maybe.some maybe.none)
     (id : ℕ) (v : Stance) (at : get_elem? seats id ≡ maybe.some v) (after : Homes) (i x : ℕ) (w : Stance) where
   -- no list moves
-  unmoved : after ≡ homes → w.hand ≡ v.hand → (p : ℕ) → listed p after (set seats id w) ≤ listed p homes seats
-  unmoved there hand p = let lists = listed_same homes seats id v w at p (ap (λ (h : Option Hand). times p (hand_list h)) hand) in
-      let same : listed p after (set seats id w) ≡ listed p homes (set seats id w) = ap (λ (h : Homes). listed p h (set seats id w)) there in omega arith
+  unmoved : after ≡ homes → w.hand ≡ v.hand → (p : ℕ) → on_lists p after (set seats id w) ≤ on_lists p homes seats
+  unmoved there hand p = let lists = listed_same homes seats id v w at p (ap (λ (h : Option Hand). times_on p (hand_list h)) hand) in
+      let same : on_lists p after (set seats id w) ≡ on_lists p homes (set seats id w) = ap (λ (h : Homes). on_lists p h (set seats id w)) there in omega arith
 
   -- a list goes home, and p isn't on it more often than it was
-  sent : (l : ℕ) (found : List Waiter) (list : Waiters) → l < z.locks → v.hand ≡ hand_of l found → after ≡ set homes l (maybe.some list) → w.hand ≡ None → (p : ℕ) → times p list.items ≤ times p found
-      → listed p after (set seats id w) ≤ listed p homes seats
+  sent : (l : ℕ) (found : List Waiter) (list : Waiters) → l < z.locks → v.hand ≡ hand_of l found → after ≡ set homes l (maybe.some list) → w.hand ≡ None → (p : ℕ) → times_on p list.items ≤ times_on p found
+      → on_lists p after (set seats id w) ≤ on_lists p homes seats
   sent l found list inside hand there none p fewer =
       let lists = listed_sent homes seats id v w at p l found list (out id l v found at inside hand) hand none in
-      let same : listed p after (set seats id w) ≡ listed p (set homes l (maybe.some list)) (set seats id w) = ap (λ (h : Homes). listed p h (set seats id w)) there in omega arith
+      let same : on_lists p after (set seats id w) ≡ on_lists p (set homes l (maybe.some list)) (set seats id w) = ap (λ (h : Homes). on_lists p h (set seats id w)) there in omega arith
 
-  pub listed_fewer : Turn z words homes after i x v w → (p : ℕ) → (v.own ≡ Some p → v.announced ≡ false) → listed p after (set seats id w) ≤ listed p homes seats
+  pub listed_fewer : Turn z words homes after i x v w → (p : ℕ) → (v.own ≡ Some p → v.announced ≡ false) → on_lists p after (set seats id w) ≤ on_lists p homes seats
   listed_fewer (stays still there is) p quiet = unmoved there (ap hand_in is) p
   listed_fewer (takes l list inside at_state clear to home there none is) p quiet =
       let lists = listed_out homes seats id v w at p l list home none (ap hand_in is) in
-      let moved : listed p after (set seats id w) ≡ listed p (set homes l maybe.none) (set seats id w) = ap (λ (h : Homes). listed p h (set seats id w)) there in omega arith
+      let moved : on_lists p after (set seats id w) ≡ on_lists p (set homes l maybe.none) (set seats id w) = ap (λ (h : Homes). on_lists p h (set seats id w)) there in omega arith
   listed_fewer (flags l found inside at_state to there hand none is) p quiet = unmoved there (ap hand_in is) p
   listed_fewer (announces q few own at_field to there round none is) p quiet = unmoved there (ap hand_in is) p
   listed_fewer (queues l q want found list inside few own at_state to items there hand flagged announced round none is) p quiet = dite (ℕ_discrete p q)
       (λ same. let silent : v.announced ≡ false = quiet (own ∙ ap Some (sym same)) in absurd (cc))
-      (λ ne. let joined : times p list.items ≡ times p found + cond (eqb q p) 1 0 = ap (times p) items ∙ times_joined p (waiter q want) found in
+      (λ ne. let joined : times_on p list.items ≡ times_on p found + cond (eqb q p) 1 0 = ap (times_on p) items ∙ times_joined p (waiter q want) found in
       let none_more : cond {A = ℕ} (eqb q p) 1 0 ≡ 0 = ap (λ (b : Bool). cond b 1 0) (ne_eqb q p (λ e. ne (sym e))) in sent l found list inside hand there (ap hand_in is) p (omega arith))
   listed_fewer (checks l q want found few own at_field to there hand queued round none is) p quiet = unmoved there (ap hand_in is) p
   listed_fewer (leaves l q want found list inside few own at_state to items there hand flagged queued round leaving none is) p quiet =
-      let fewer : times p list.items ≡ times p (without q found) = ap (times p) items in let less = times_without_le p q found in sent l found list inside hand there (ap hand_in is) p (omega arith)
+      let fewer : times_on p list.items ≡ times_on p (without q found) = ap (times_on p) items in let less = times_without_le p q found in sent l found list inside hand there (ap hand_in is) p (omega arith)
   listed_fewer (was_taken l q want found list inside few own at_state to items there hand flagged queued round leaving is) p quiet =
-      let same : times p list.items ≡ times p found = ap (times p) items in sent l found list inside hand there (ap hand_in is) p (omega arith)
+      let same : times_on p list.items ≡ times_on p found = ap (times_on p) items in sent l found list inside hand there (ap hand_in is) p (omega arith)
   listed_fewer (withdraws q few own at_field to there round announced is) p quiet = unmoved there (ap hand_in is) p
   listed_fewer (marks l u found done rest few at_field to there hand marked within none is) p quiet = unmoved there (ap hand_in is) p
   listed_fewer (detaches l found list inside at_state to items there hand flagged marked unlisted owed leaving is) p quiet =
-      let same : times p list.items ≡ times p (kept_from found) = ap (times p) items in let parts = times_parted p found in sent l found list inside hand there (ap hand_in is) p (omega arith)
+      let same : times_on p list.items ≡ times_on p (kept_from found) = ap (times_on p) items in let parts = times_parted p found in sent l found list inside hand there (ap hand_in is) p (omega arith)
   listed_fewer (summons l found list inside at_state to items there hand flagged marked unlisted owed leaving is) p quiet =
-      let same : times p list.items ≡ times p (lockers_from found) = ap (times p) items in let parts = times_headed p found in sent l found list inside hand there (ap hand_in is) p (omega arith)
+      let same : times_on p list.items ≡ times_on p (lockers_from found) = ap (times_on p) items in let parts = times_headed p found in sent l found list inside hand there (ap hand_in is) p (omega arith)
   listed_fewer (returns l found list inside at_state to items there hand flagged marked leaving is) p quiet =
-      let same : times p list.items ≡ times p found = ap (times p) items in sent l found list inside hand there (ap hand_in is) p (omega arith)
+      let same : times_on p list.items ≡ times_on p found = ap (times_on p) items in sent l found list inside hand there (ap hand_in is) p (omega arith)
   listed_fewer (unmarks u us few at_field to there unlisted is) p quiet = unmoved there (ap hand_in is) p
   listed_fewer (posts u us few at_sem to there owed cleared is) p quiet = unmoved there (ap hand_in is) p
   listed_fewer (sees q few own at_sem to some there none is) p quiet = unmoved there (ap hand_in is) p

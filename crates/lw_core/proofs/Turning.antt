@@ -21,7 +21,7 @@ use Rattle.lw_core.specs.declared.view.Want.{Want}
 use Rattle.lw_core.specs.declared.view.Want.TheVariants as want
 use Rattle.lw_core.specs.declared.view.Waiter.{Waiter}
 use Rattle.lw_core.specs.Words.{Waiters, state_at, var_at, waiting_at, sem_at, grant_of, is_free, lock_part, locked, release_ok, has_waiters, has_flag, set_flag, clear_flag}
-use Rattle.lw_core.specs.WaitLists.{waiter, times, joined_by, without, taken_from, kept_from, lockers_from, home_of, home_list}
+use Rattle.lw_core.specs.WaitLists.{waiter, times_on, joined_by, without, taken_from, kept_from, lockers_from, home_of, home_list}
 use Rattle.lw_core.specs.declared.view.View.{View}
 use Rattle.lw_core.specs.Machine.{Place, fresh, top, outer, number_of, lock_number, word_of, becomes, next, IsInRange, act_of, carried, downed_at, moved, gripped, held, mode_in, Allowed, want_of, resumed, on_grant, on_refusal, loaded, peeked, on_outcome, on_conflict, taking, releasing, compared, published, let_go, after_store, calls_for_wake, in_hand, flagged, sent_home, stored, reread, telling, detached, posted, looked, answered, surplus_found, surplus_posted, left_at, as_waiters, woken_word, MayLoad, MayTake, MaySendHome, MayFlag, MayStore, MayReread, MayDetach, Owes, MayLook, MayAnswer, MayPeek, BeginsTaking, MayReadVar, MayStoreVar, BeginsRelease}
 use Rattle.lw_core.specs.SeatFits.{FollowsAttempt, FollowsLook, FollowsLeaving, FollowsSleep, FollowsDown, FollowsTaking, PlaceFits}
@@ -263,9 +263,9 @@ module _ (z : Size) (words : List ℕ) (homes : Homes) (own : Option ℕ) (s : �
   store_turned holds q x (Announcing l w found ∷ r) ok fits inside = announces q inside ok.0 refl ok.1 refl refl refl refl
   store_turned holds q x (Withdrawing ∷ r) ok fits inside = withdraws q inside ok.0 refl ok.1 refl refl refl (left_idle own s poked downed want.UntilFree r fits)
   store_turned holds q x (Marking l updated found marked (u ∷ us) ∷ r) ok fits inside = marks l u found marked us (subst (λ (n : ℕ). n < z.procs) (sym ok.0) inside) (ap (waiting_at z) (sym ok.0)) ok.1 refl refl refl
-      (λ n. let all = ap (times n) fits.0 in let parts = times_parted n found in omega arith) refl refl
+      (λ n. let all = ap (times_on n) fits.0 in let parts = times_parted n found in omega arith) refl refl
   store_turned holds q x (Calling l found marked (u ∷ us) ∷ r) ok fits inside = marks l u found marked us (subst (λ (n : ℕ). n < z.procs) (sym ok.0) inside) (ap (waiting_at z) (sym ok.0)) ok.1 refl refl refl
-      (λ n. let all = ap (times n) fits.0 in let parts = times_headed n found in omega arith) refl refl
+      (λ n. let all = ap (times_on n) fits.0 in let parts = times_headed n found in omega arith) refl refl
   store_turned holds q x (Clearing (u ∷ us) ∷ r) ok fits inside = unmarks u us (subst (λ (n : ℕ). n < z.procs) (sym ok.0) inside) (ap (waiting_at z) (sym ok.0)) ok.1 refl refl refl
   store_turned holds q x place ok fits inside = absurd ok
 
@@ -318,14 +318,12 @@ module _ (z : Size) (words : List ℕ) (homes : Homes) (own : Option ℕ) (s : �
     where
       slept : (b : Option Call) (q : Place) → MayLook b q → at (looked true q) ≡ at q
       slept (Some c) [] e = refl
-      slept (Some c) (Looking ∷ q) e = refl
       slept None (Looking ∷ q) e = refl
       slept None (Asleep ∷ q) e = refl
       slept b q e = absurd e
 
       awake : (b : Option Call) (q : Place) → MayLook b q → ((at q).downing ≡ false) × (at (looked false q) ≡ record (at q) { downing = true })
       awake (Some c) [] e = (refl, refl)
-      awake (Some c) (Looking ∷ q) e = (refl, refl)
       awake None (Looking ∷ q) e = (refl, refl)
       awake None (Asleep ∷ q) e = (refl, refl)
       awake b q e = absurd e
@@ -491,8 +489,6 @@ module _ (own : Option ℕ) (s : ℕ) (poked downed : List ℕ) where
   hand_looked : (b : Option Call) (p : Place) → MayLook b p → (is_zero : Bool) → lock_in_hand (hand_at (looked is_zero p)) ≡ lock_in_hand (hand_at p)
   hand_looked (Some c) [] ok true = refl
   hand_looked (Some c) [] ok false = refl
-  hand_looked (Some c) (Looking ∷ q) ok true = refl
-  hand_looked (Some c) (Looking ∷ q) ok false = refl
   hand_looked None (Looking ∷ q) ok true = refl
   hand_looked None (Looking ∷ q) ok false = refl
   hand_looked None (Asleep ∷ q) ok true = refl

@@ -7,7 +7,7 @@ use Rattle.lw_core.specs.declared.view.Want.{Want}
 use Rattle.lw_core.specs.declared.view.Want.TheVariants as want
 use Rattle.lw_core.specs.declared.view.Waiter.{Waiter}
 use Rattle.lw_core.specs.Words.{Waiters, state_at, var_at, guard_at, waiting_at, sem_at, locked, release_ok, has_waiters, has_flag, set_flag, clear_flag}
-use Rattle.lw_core.specs.WaitLists.{waiter, times, joined_by, without, taken_from, kept_from, until_free_from, lockers_from, is_empty}
+use Rattle.lw_core.specs.WaitLists.{waiter, times_on, joined_by, without, taken_from, kept_from, until_free_from, lockers_from, is_empty}
 use Rattle.lw_core.specs.Machine.{woken_word, fresh}
 use Rattle.lw_core.specs.Stances.{Stance, Entry, hand_of, hand_list, entry_of, due_of, stance_of}
 
@@ -54,7 +54,7 @@ pub data Turn (z : Size) (words : List ℕ) (homes after : Homes) (i x : ℕ) (v
   -- the own waiting field is cleared
   withdraws : (p : ℕ) → p < z.procs → v.own ≡ Some p → i ≡ waiting_at z p → x ≡ 0 → after ≡ homes → v.round ≡ false → v.announced ≡ true → w ≡ record v { announced = false } → Turn z words homes after i x v w
   -- one more of those who are taken is marked
-  marks : (l : ℕ) (u : Waiter) (found done rest : List Waiter) → u.proc < z.procs → i ≡ waiting_at z u.proc → x ≡ 2 → after ≡ homes → v.hand ≡ hand_of l found → v.marked ≡ done → ((p : ℕ) → times p (done ++ u ∷ rest) ≤ times p found) → v.unlisted ≡ []
+  marks : (l : ℕ) (u : Waiter) (found done rest : List Waiter) → u.proc < z.procs → i ≡ waiting_at z u.proc → x ≡ 2 → after ≡ homes → v.hand ≡ hand_of l found → v.marked ≡ done → ((p : ℕ) → times_on p (done ++ u ∷ rest) ≤ times_on p found) → v.unlisted ≡ []
       → w ≡ record v { marked = done ++ u ∷ [] } → Turn z words homes after i x v w
   -- those who are taken leave the list, which goes home
   detaches : (l : ℕ) (found : List Waiter) (list : Waiters) → l < z.locks → i ≡ state_at l → x ≡ woken_word (taken_from found) (kept_from found) (get_or words i 0) → list.items ≡ kept_from found
@@ -100,7 +100,7 @@ takes_over v poked downed = record v { poked = v.poked ++ poked; downed = v.down
 -- what holds of the stance of each seat whose place fits
 pub record IsSound (v : Stance) : Type 0 where
   -- those that it marked are on the list in hand
-  pub marked : (p : ℕ) → times p v.marked ≤ times p (hand_list v.hand)
+  pub marked : (p : ℕ) → times_on p v.marked ≤ times_on p (hand_list v.hand)
   -- who announced is in no round, and owes no RELEASE_OK
   pub announced : v.announced ≡ true → v.round ≡ false
   pub undue : v.announced ≡ true → v.due ≡ None

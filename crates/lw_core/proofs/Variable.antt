@@ -23,7 +23,7 @@ use Rattle.lw_core.specs.declared.view.Want.TheVariants.{UntilFree}
 use Rattle.lw_core.specs.Words.{Waiters, state_at, var_at, grant_of, locked, release_ok, has_waiters, has_flag, set_flag, word_count}
 use Rattle.lw_core.specs.WaitLists.{times_with, HasNoUntilFree, IsUntilFreeFirst, taken_from, kept_from, home_of, home_list}
 use Rattle.lw_core.specs.Machine.{LwState, Place, outer, held, mode_in, fresh, number_of, lock_number, IsInRange, word_of, becomes, moved, gripped, on_grant, on_refusal, calls_for_wake, in_hand, detached, posted, surplus_posted, left_at, next, carried, act_of, as_waiters, MayTake, MayDetach, Allowed, after, HoldsNothing, taking}
-use Rattle.lw_core.specs.Stances.{Stance, Hand, hand_list, hand_at, has_list, listed, entry_of, queued_at, announced_at, stance_of}
+use Rattle.lw_core.specs.Stances.{Stance, Hand, hand_list, hand_at, has_list, on_lists, entry_of, queued_at, announced_at, stance_of}
 use Rattle.lw_core.specs.CountsHolders.{is_exclusive}
 use Rattle.lw_core.specs.SeatFits.{PlaceFits}
 use Rattle.lw_core.specs.FreeLockIsAnswered.{lock_in}
@@ -243,17 +243,17 @@ module _ (lawful : ℕ → List ℕ → Type 0) (z : Size) (s : LwState) (r : Ru
     takes_on = by_kind k inside ok
 
     -- a seat of the state afterwards, which watches the variable and is listed
-    module _ (j p old : ℕ) (u : View) (at_now : get_elem? now.views j ≡ maybe.some u) (own : u.own ≡ Some p) (some : 1 ≤ listed p now.homes (map stance_of now.views)) where
+    module _ (j p old : ℕ) (u : View) (at_now : get_elem? now.views j ≡ maybe.some u) (own : u.own ≡ Some p) (some : 1 ≤ on_lists p now.homes (map stance_of now.views)) where
       -- it was listed before
-      was_listed : (v.own ≡ Some p → announced_at v.place ≡ false) → 1 ≤ listed p s.homes (map stance_of s.views)
+      was_listed : (v.own ≡ Some p → announced_at v.place ≡ false) → 1 ≤ on_lists p s.homes (map stance_of s.views)
       was_listed quiet =
           let fewer = listed_fewer z s.words s.homes (map stance_of s.views) (out lawful z s r) id (stance_of v) there now.homes _ _ (stance_of (view_by k)) turn p quiet in
-          let same = ap (listed p now.homes) (seen stance_of s.views id (view_by k) (stance_of (view_by k)) refl) in omega arith
+          let same = ap (on_lists p now.homes) (seen stance_of s.views id (view_by k) (stance_of (view_by k)) refl) in omega arith
 
-      else_listed : j ≢ id → get_elem? s.views j ≡ maybe.some u → 1 ≤ listed p s.homes (map stance_of s.views)
+      else_listed : j ≢ id → get_elem? s.views j ≡ maybe.some u → 1 ≤ on_lists p s.homes (map stance_of s.views)
       else_listed ne at_before = was_listed (λ mine. absurd (two_numbers (map stance_of s.views) (alone lawful z s r) id j p (stance_of v) (stance_of u) there (at_seen stance_of s.views j u (stance_of u) at_before refl) ne mine own))
 
-      mine_listed : watches_at v.place ≡ watch_of l old → 1 ≤ listed p s.homes (map stance_of s.views)
+      mine_listed : watches_at v.place ≡ watch_of l old → 1 ≤ on_lists p s.homes (map stance_of s.views)
       mine_listed was = was_listed (λ _. watcher_quiet record { lock = l; value = old } v.place was)
 
       module _ (watching : watches_at u.place ≡ watch_of l old) where

@@ -10,8 +10,8 @@ use Rattle.seat_roster.proofs.Totals.{total_set, total_snoc, total_at, total_gap
 use Rattle.lw_core.specs.declared.view.Size.{Size}
 use Rattle.lw_core.specs.declared.view.Waiter.{Waiter}
 use Rattle.lw_core.specs.Words.{Waiters, state_at, waiting_at, word_count}
-use Rattle.lw_core.specs.WaitLists.{waiter, times, without, taken_from, kept_from, until_free_from, lockers_from}
-use Rattle.lw_core.specs.Stances.{Stance, hand_of, is_own, count_if, hand_times, listed, unlisted_times}
+use Rattle.lw_core.specs.WaitLists.{waiter, times_on, without, taken_from, kept_from, until_free_from, lockers_from}
+use Rattle.lw_core.specs.Stances.{Stance, hand_of, is_own, count_if, hand_times, on_lists, unlisted_times}
 use Rattle.lw_core.specs.ListedOnce.{ListedOnce}
 use Rattle.lw_core.specs.WaitingTellsPlace.{adds_to, WaitingTellsPlace}
 use Rattle.lw_core.proofs.Storing.{word_read, still_past}
@@ -36,8 +36,8 @@ module _ (z : Size) (words : List ℕ) (homes : Homes) (seats : List Stance) (lo
 
   module _ (id : ℕ) (v : Stance) (at : get_elem? seats id ≡ maybe.some v) where
     -- the sums move by as much as the field
-    moved : (after : Homes) (field p : ℕ) (w : Stance) → p < z.procs → field + (listed p homes seats + adds_to p v) ≡ get_or words (waiting_at z p) 0 + (listed p after (set seats id w) + adds_to p w)
-        → field ≡ listed p after (set seats id w) + total (adds_to p) (set seats id w)
+    moved : (after : Homes) (field p : ℕ) (w : Stance) → p < z.procs → field + (on_lists p homes seats + adds_to p v) ≡ get_or words (waiting_at z p) 0 + (on_lists p after (set seats id w) + adds_to p w)
+        → field ≡ on_lists p after (set seats id w) + total (adds_to p) (set seats id w)
     moved after field p w below sums = let old = was p below in let sum = total_set (adds_to p) seats id v w at in omega arith
 
     -- nothing moves
@@ -49,7 +49,7 @@ module _ (z : Size) (words : List ℕ) (homes : Homes) (seats : List Stance) (lo
 
     -- a list goes home
     sent : (after : Homes) (i x l : ℕ) (w : Stance) (found : List Waiter) (list : Waiters) → l < z.locks → i ≡ state_at l → v.hand ≡ hand_of l found → after ≡ set homes l (maybe.some list) → w.hand ≡ None
-        → ((p : ℕ) → times p list.items + adds_to p w ≡ times p found + adds_to p v) → WaitingTellsPlace z (set words i x) after (set seats id w)
+        → ((p : ℕ) → times_on p list.items + adds_to p w ≡ times_on p found + adds_to p v) → WaitingTellsPlace z (set words i x) after (set seats id w)
     sent after i x l w found list inside is hand there none parts = subst (λ (h : Homes). WaitingTellsPlace z (set words i x) h (set seats id w)) (sym there)
         (λ p below. let field = unread i x p (λ e. omega arith) in let a = parts p in let lists = listed_sent homes seats id v w at p l found list (out id l v found at inside hand) hand none in
         moved (set homes l (maybe.some list)) (get_or (set words i x) (waiting_at z p) 0) p w below (omega arith))
@@ -58,7 +58,7 @@ module _ (z : Size) (words : List ℕ) (homes : Homes) (seats : List Stance) (lo
     own_stored : (after : Homes) (i x q : ℕ) (w : Stance) (b : Bool) → q < z.procs → v.own ≡ Some q → i ≡ waiting_at z q → x ≡ count_if b 1 → after ≡ homes → v.round ≡ false → w ≡ record v { announced = b }
         → WaitingTellsPlace z (set words i x) after (set seats id w)
     own_stored after i x q w b few own at_field becomes there not is = subst (λ (h : Homes). WaitingTellsPlace z (set words i x) h (set seats id w)) (sym there)
-        (λ p below. let lists = listed_same homes seats id v w at p (ap (hand_times p) is) in let adds : adds_to p w ≡ count_if b (is_own p v.own) + (times p v.marked + 2 * times p v.unlisted) = ap (adds_to p) is in
+        (λ p below. let lists = listed_same homes seats id v w at p (ap (hand_times p) is) in let adds : adds_to p w ≡ count_if b (is_own p v.own) + (times_on p v.marked + 2 * times_on p v.unlisted) = ap (adds_to p) is in
         moved homes (get_or (set words i x) (waiting_at z p) 0) p w below (dite (ℕ_discrete p q)
         (λ here. let field = stored i x p q few at_field here in let mine : v.own ≡ Some p = own ∙ ap Some (sym here) in
         let quiet = out_of_round seats alone p id v at mine not in let once = listed_once.once p in let marked = marked_most seats sound p in
@@ -67,7 +67,7 @@ module _ (z : Size) (words : List ℕ) (homes : Homes) (seats : List Stance) (lo
         (λ ne. let field = unread i x p (λ e. ne (omega arith)) in let none = own_else p q v.own own ne in let a = count_most b (is_own p v.own) in let c = count_most v.announced (is_own p v.own) in omega arith)))
 
     -- who is on a list in hand or was taken off one and is marked: once, and hasn't announced anything
-    once_marked : (p : ℕ) → 1 ≤ listed p homes seats + total (unlisted_times p) seats → (listed p homes seats + total (unlisted_times p) seats ≡ 1) × (total (announces_for p) seats ≡ 0)
+    once_marked : (p : ℕ) → 1 ≤ on_lists p homes seats + total (unlisted_times p) seats → (on_lists p homes seats + total (unlisted_times p) seats ≡ 1) × (total (announces_for p) seats ≡ 0)
     once_marked p some = let once = listed_once.once p in let one = in_one_round seats alone p in (omega arith, round_quiet seats alone sound p (omega arith))
 
     -- THE LAW of the turns
@@ -80,23 +80,23 @@ module _ (z : Size) (words : List ℕ) (homes : Homes) (seats : List Stance) (lo
     waiting_turn after i x w (announces q few own at_field becomes there not quiet is) = own_stored after i x q w true few own at_field becomes there not is
     waiting_turn after i x w (queues l q want found list inside few own at_state becomes joined there hand flagged announced not unqueued is) =
         sent after i x l w found list inside at_state hand there (ap (λ (u : Stance). u.hand) is)
-        (λ p. let a : times p list.items ≡ times p found + is_own p (Some q) = ap (times p) joined ∙ times_joined p (waiter q want) found in
-        let b : adds_to p w ≡ 0 + (times p v.marked + 2 * times p v.unlisted) = ap (adds_to p) is in
+        (λ p. let a : times_on p list.items ≡ times_on p found + is_own p (Some q) = ap (times_on p) joined ∙ times_joined p (waiter q want) found in
+        let b : adds_to p w ≡ 0 + (times_on p v.marked + 2 * times_on p v.unlisted) = ap (adds_to p) is in
         let c : announces_for p v ≡ is_own p (Some q) = ap (λ (b : Bool). count_if b (is_own p v.own)) announced ∙ ap (is_own p) own in omega arith)
     waiting_turn after i x w (checks l q want found few own at_field becomes there hand queued round quiet is) = same after i x w (λ p. word_read words i x (waiting_at z p) becomes) there (λ p. ap (sight p) is)
     waiting_turn after i x w (leaves l q want found list inside few own at_state becomes left there hand unflagged queued round leaving quiet is) =
         sent after i x l w found list inside at_state hand there (ap (λ (u : Stance). u.hand) is)
-        (λ p. let a : times p list.items ≡ times p (without q found) = ap (times p) left in let b : adds_to p w ≡ is_own p v.own + (times p v.marked + 2 * times p v.unlisted) = ap (adds_to p) is in
+        (λ p. let a : times_on p list.items ≡ times_on p (without q found) = ap (times_on p) left in let b : adds_to p w ≡ is_own p v.own + (times_on p v.marked + 2 * times_on p v.unlisted) = ap (adds_to p) is in
         let c : announces_for p v ≡ 0 = ap (λ (b : Bool). count_if b (is_own p v.own)) quiet in let mine : is_own p v.own ≡ is_own p (Some q) = ap (is_own p) own in
         let rest = times_left q found (sym (times_in_hand q v (hand_of l found) hand) ∙ (listed_once.leaves id v at true q leaving own).0 refl) p in omega arith)
     waiting_turn after i x w (was_taken l q want found list inside few own at_state becomes kept there hand unflagged queued round leaving is) =
         sent after i x l w found list inside at_state hand there (ap (λ (u : Stance). u.hand) is)
-        (λ p. let a : times p list.items ≡ times p found = ap (times p) kept in let b : adds_to p w ≡ adds_to p v = ap (adds_to p) is in omega arith)
+        (λ p. let a : times_on p list.items ≡ times_on p found = ap (times_on p) kept in let b : adds_to p w ≡ adds_to p v = ap (adds_to p) is in omega arith)
     waiting_turn after i x w (withdraws q few own at_field becomes there not announced is) = own_stored after i x q w false few own at_field becomes there not is
     waiting_turn after i x w (marks l u found done rest few at_field becomes there hand marked on_list unlisted is) =
         subst (λ (h : Homes). WaitingTellsPlace z (set words i x) h (set seats id w)) (sym there)
-        (λ p below. let lists = listed_same homes seats id v w at p (ap (hand_times p) is) in let adds : adds_to p w ≡ announces_for p v + (times p (done ++ u ∷ []) + 2 * times p v.unlisted) = ap (adds_to p) is in
-        let more = times_append p done (u ∷ []) in let before : times p v.marked ≡ times p done = ap (times p) marked in moved homes (get_or (set words i x) (waiting_at z p) 0) p w below (dite (ℕ_discrete p u.proc)
+        (λ p below. let lists = listed_same homes seats id v w at p (ap (hand_times p) is) in let adds : adds_to p w ≡ announces_for p v + (times_on p (done ++ u ∷ []) + 2 * times_on p v.unlisted) = ap (adds_to p) is in
+        let more = times_append p done (u ∷ []) in let before : times_on p v.marked ≡ times_on p done = ap (times_on p) marked in moved homes (get_or (set words i x) (waiting_at z p) 0) p w below (dite (ℕ_discrete p u.proc)
         (λ here. let field = stored i x p u.proc few at_field here in let one = times_here p u [] here in let one' = times_here p u rest here in
         let split = times_append p done (u ∷ rest) in let among = on_list p in
         let on = times_in_hand p v (hand_of l found) hand in let least = total_at (hand_times p) seats id v at in let once = once_marked p (omega arith) in
@@ -104,20 +104,20 @@ module _ (z : Size) (words : List ℕ) (homes : Homes) (seats : List Stance) (lo
         (λ ne. let field = unread i x p (λ e. ne (omega arith)) in let none = times_else p u [] ne in omega arith)))
     waiting_turn after i x w (detaches l found list inside at_state becomes kept there hand unflagged marked unlisted unowed unleaving is) =
         sent after i x l w found list inside at_state hand there (ap (λ (u : Stance). u.hand) is)
-        (λ p. let a : times p list.items ≡ times p (kept_from found) = ap (times p) kept in let parted = times_parted p found in
-        let b : adds_to p w ≡ announces_for p v + (0 + 2 * times p (taken_from found)) = ap (adds_to p) is in let c : times p v.marked ≡ times p (taken_from found) = ap (times p) marked in
-        let d : times p v.unlisted ≡ 0 = ap (times p) unlisted in omega arith)
+        (λ p. let a : times_on p list.items ≡ times_on p (kept_from found) = ap (times_on p) kept in let parted = times_parted p found in
+        let b : adds_to p w ≡ announces_for p v + (0 + 2 * times_on p (taken_from found)) = ap (adds_to p) is in let c : times_on p v.marked ≡ times_on p (taken_from found) = ap (times_on p) marked in
+        let d : times_on p v.unlisted ≡ 0 = ap (times_on p) unlisted in omega arith)
     waiting_turn after i x w (summons l found list inside at_state becomes kept there hand unflagged marked unlisted unowed unleaving is) =
         sent after i x l w found list inside at_state hand there (ap (λ (u : Stance). u.hand) is)
-        (λ p. let a : times p list.items ≡ times p (lockers_from found) = ap (times p) kept in let headed = times_headed p found in
-        let b : adds_to p w ≡ announces_for p v + (0 + 2 * times p (until_free_from found)) = ap (adds_to p) is in let c : times p v.marked ≡ times p (until_free_from found) = ap (times p) marked in
-        let d : times p v.unlisted ≡ 0 = ap (times p) unlisted in omega arith)
+        (λ p. let a : times_on p list.items ≡ times_on p (lockers_from found) = ap (times_on p) kept in let headed = times_headed p found in
+        let b : adds_to p w ≡ announces_for p v + (0 + 2 * times_on p (until_free_from found)) = ap (adds_to p) is in let c : times_on p v.marked ≡ times_on p (until_free_from found) = ap (times_on p) marked in
+        let d : times_on p v.unlisted ≡ 0 = ap (times_on p) unlisted in omega arith)
     waiting_turn after i x w (returns l found list inside at_state becomes kept there hand unflagged unmarked unleaving is) =
         sent after i x l w found list inside at_state hand there (ap (λ (u : Stance). u.hand) is)
-        (λ p. let a : times p list.items ≡ times p found = ap (times p) kept in let b : adds_to p w ≡ adds_to p v = ap (adds_to p) is in omega arith)
+        (λ p. let a : times_on p list.items ≡ times_on p found = ap (times_on p) kept in let b : adds_to p w ≡ adds_to p v = ap (adds_to p) is in omega arith)
     waiting_turn after i x w (unmarks u us few at_field becomes there unlisted is) = subst (λ (h : Homes). WaitingTellsPlace z (set words i x) h (set seats id w)) (sym there)
-        (λ p below. let lists = listed_same homes seats id v w at p (ap (hand_times p) is) in let adds : adds_to p w ≡ announces_for p v + (times p v.marked + 2 * times p us) = ap (adds_to p) is in
-        let off : times p v.unlisted ≡ times p (u ∷ us) = ap (times p) unlisted in moved homes (get_or (set words i x) (waiting_at z p) 0) p w below (dite (ℕ_discrete p u.proc)
+        (λ p below. let lists = listed_same homes seats id v w at p (ap (hand_times p) is) in let adds : adds_to p w ≡ announces_for p v + (times_on p v.marked + 2 * times_on p us) = ap (adds_to p) is in
+        let off : times_on p v.unlisted ≡ times_on p (u ∷ us) = ap (times_on p) unlisted in moved homes (get_or (set words i x) (waiting_at z p) 0) p w below (dite (ℕ_discrete p u.proc)
         (λ here. let field = stored i x p u.proc few at_field here in let more = times_here p u us here in let least = total_at (unlisted_times p) seats id v at in
         let once = once_marked p (omega arith) in let marks = marked_most seats sound p in let parts = adds_parts p seats in let old = was p below in omega arith)
         (λ ne. let field = unread i x p (λ e. ne (omega arith)) in let more = times_else p u us ne in omega arith)))

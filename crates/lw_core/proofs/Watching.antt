@@ -304,8 +304,6 @@ module _ (l x : ℕ) (IsSet IsDone : Type 0) where
   pub looked_goes : (b : Option Call) (p : Place) → MayLook b p → (is_zero : Bool) → Passes p (looked is_zero p)
   looked_goes (Some c) [] ok true = rests _ _ refl refl
   looked_goes (Some c) [] ok false = rests _ _ refl refl
-  looked_goes (Some c) (Looking ∷ p) ok true = goes_on _ _ refl refl refl refl
-  looked_goes (Some c) (Looking ∷ p) ok false = goes_on _ _ refl refl refl refl
   looked_goes None (Looking ∷ p) ok true = goes_on _ _ refl refl refl refl
   looked_goes None (Looking ∷ p) ok false = goes_on _ _ refl refl refl refl
   looked_goes None (Asleep ∷ p) ok true = goes_on _ _ refl refl refl refl

@@ -6,7 +6,7 @@ use Rattle.lw_core.specs.declared.view.Frame.TheVariants.{Attempting, Trying, Un
 use Rattle.lw_core.specs.declared.view.View.{View}
 use Rattle.lw_core.specs.Words.{Waiters, lock_part}
 use Rattle.lw_core.specs.Machine.{Place}
-use Rattle.lw_core.specs.Stances.{Entry, sleep_entry, listed, stance_of}
+use Rattle.lw_core.specs.Stances.{Entry, sleep_entry, on_lists, stance_of}
 use Rattle.lw_core.specs.ReleaseOkIsOwed.{Answers}
 
 -- the lock that the seat is releasing, from the release that calls for a wake to the exchange of that wake; or for which it makes the attempt that follows its sleep
@@ -51,5 +51,5 @@ abbrev pub IsAnswered : ℕ → List (maybe.Option Waiters) → List View → Ty
 IsAnswered l homes views = Answers l homes (map stance_of views) ⊎ Attends l views
 
 abbrev pub FreeLockIsAnswered : ℕ → ℕ → List (maybe.Option Waiters) → List View → Type 0
-FreeLockIsAnswered l word homes views = lock_part word ≡ 0 → (id p : ℕ) (v : View) → get_elem? views id ≡ maybe.some v → v.own ≡ Some p → committed_at v.place ≡ Some l → 1 ≤ listed p homes (map stance_of views)
+FreeLockIsAnswered l word homes views = lock_part word ≡ 0 → (id p : ℕ) (v : View) → get_elem? views id ≡ maybe.some v → v.own ≡ Some p → committed_at v.place ≡ Some l → 1 ≤ on_lists p homes (map stance_of views)
     → IsAnswered l homes views

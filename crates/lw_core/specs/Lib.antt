@@ -6,6 +6,7 @@ pub mod Stances
 pub mod CountsHolders
 pub mod GuardedIsLawful
 pub mod SeatFits
+pub mod FramesStand
 pub mod ListInOneHand
 pub mod ListedOnce
 pub mod WaitingTellsPlace

@@ -540,10 +540,9 @@ MayPost q (Some (call.Poke r)) v = (r ≡ q) × (v.place ≡ []) × (v.pokes < 1
 MayPost q (Some c) v = ⊥
 MayPost q None v = Owes q v.own v.place
 
--- a look begins a call where the seat is in none, or goes on in its sleep
+-- a look begins a call where the seat is in none, or goes on in a sleep or in that call
 abbrev pub MayLook : Option Call → Place → Type 0
 MayLook (Some c) [] = c ≡ call.Down
-MayLook (Some c) (Looking ∷ p) = c ≡ call.Down
 MayLook None (Looking ∷ p) = ⊤
 MayLook None (Asleep ∷ p) = ⊤
 MayLook b p = ⊥

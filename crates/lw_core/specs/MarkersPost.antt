@@ -5,12 +5,12 @@ use lib.ListN.{get_elem?}
 use Rattle.seat_roster.specs.Totals.{total}
 use Rattle.seat_roster.specs.Roster as roster
 use Rattle.lw_core.specs.declared.view.Size.{Size}
-use Rattle.lw_core.specs.WaitLists.{times}
+use Rattle.lw_core.specs.WaitLists.{times_on}
 use Rattle.lw_core.specs.Stances.{Stance, own_amount}
 
 -- whom the seat took off a list and hasn't cleared the waiting field of, it hasn't posted either
 abbrev pub PostsMarked : Stance → Type 0
-PostsMarked v = (p : ℕ) → times p v.unlisted ≤ times p v.owed
+PostsMarked v = (p : ℕ) → times_on p v.unlisted ≤ times_on p v.owed
 
 -- the wakes that p has to give back, and those that ended a `down` of its own
 abbrev pub spares : ℕ → Stance → ℕ

@@ -14,14 +14,14 @@ use Rattle.lw_core.specs.Rule.{Rule}
 use Rattle.lw_core.specs.Told.{Sat, does}
 
 -- what the operation makes of a word
-abbrev pub gives : WordOp → ℕ → ℕ
-gives op.Load n = n
-gives (op.Store value) n = value
-gives (op.Add by) n = (n + by) % 2 ^ 64
-gives (op.Sub by) n = (n + (2 ^ 64 - by)) % 2 ^ 64
-gives (op.And mask) n = bit_and n mask
-gives (op.Or bits) n = bit_or n bits
-gives (op.Change old new) n = either (n == old) new n
+abbrev pub result_of : WordOp → ℕ → ℕ
+result_of op.Load n = n
+result_of (op.Store value) n = value
+result_of (op.Add by) n = (n + by) % 2 ^ 64
+result_of (op.Sub by) n = (n + (2 ^ 64 - by)) % 2 ^ 64
+result_of (op.And mask) n = bit_and n mask
+result_of (op.Or bits) n = bit_or n bits
+result_of (op.Change old new) n = either (n == old) new n
 
 -- all bits but LOCKED, and all but LOCKED and HAS_WAITERS
 abbrev pub unlocked_mask : Bool → ℕ
@@ -54,5 +54,5 @@ abbrev pub about : Step Waiters
 about = step 0 0 0 0 maybe.none
 
 -- what a step owes to the table: the rule is kept, and the seat's view goes on as the machine says
-abbrev pub Owes : (ℕ → List ℕ → Type 0) → Size → ℕ → ℕ → Sat → ℕ → (ℕ → ℕ) → LwStep → Type 0
-Owes lawful z slots id me word f k = Allows (Rule lawful z) slots id me word f (does lawful z k about me)
+abbrev pub TableAllows : (ℕ → List ℕ → Type 0) → Size → ℕ → ℕ → Sat → ℕ → (ℕ → ℕ) → LwStep → Type 0
+TableAllows lawful z slots id me word f k = Allows (Rule lawful z) slots id me word f (does lawful z k about me)

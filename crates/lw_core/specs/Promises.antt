@@ -1,5 +1,5 @@
 -- The statements of the laws over states and over runs.
-use Rattle.std.specs.Prelude.{◌≡◌, ℕ, ◌<◌, List, length, Some, IsSome}
+use Rattle.std.specs.Prelude.{◌≡◌, ℕ, ◌<◌, List, [], length, Some, IsSome}
 use mathlib.Core.Option as maybe
 use lib.ListN.{get_elem?}
 use Rattle.atomic_table.specs.Table.{opening}
@@ -25,6 +25,10 @@ IsOpening z s = (words : List ℕ) × (lists : List Waiters) × (length words �
 -- each state that a run from a new table reaches, by steps of any seats and moves in any order, is so
 abbrev pub HoldsInRuns : (ℕ → List ℕ → Type 0) → Size → (LwState → Type 0) → Type 0
 HoldsInRuns lawful z IsSo = (s t : LwState) (events : List Event) → IsOpening z s → Run lawful z s events t → IsSo t
+
+-- a seat that is in a call has a step that its place allows
+abbrev pub EachCallGoesOn : (ℕ → List ℕ → Type 0) → Size → LwState → Type 0
+EachCallGoesOn lawful z s = (id : ℕ) (v : View) → get_elem? s.views id ≡ maybe.some v → (v.place ≡ [] → ⊥) → (k : LwStep) × (t : LwState) × Steps lawful z s id k t
 
 -- no two backends hold one lock in conflicting modes
 abbrev pub HoldersAgree : Size → LwState → Type 0

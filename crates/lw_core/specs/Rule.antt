@@ -12,6 +12,7 @@ use Rattle.lw_core.specs.Stances.{stance_of}
 use Rattle.lw_core.specs.CountsHolders.{CountsHolders}
 use Rattle.lw_core.specs.GuardedIsLawful.{GuardedIsLawful}
 use Rattle.lw_core.specs.SeatFits.{Seating, SeatsFit}
+use Rattle.lw_core.specs.FramesStand.{FramesStand}
 use Rattle.lw_core.specs.ListInOneHand.{ListInOneHand, HandsInside}
 use Rattle.lw_core.specs.ListedOnce.{ListedOnce}
 use Rattle.lw_core.specs.WaitingTellsPlace.{WaitingTellsPlace}
@@ -86,6 +87,7 @@ pub record Rule (lawful : ℕ → List ℕ → Type 0) (z : Size) (s : LwState) 
   pub roster : NumbersStand z s
   pub made : EachWordIsMade z s
   pub places : PlacesFit s
+  pub frames : FramesStand lawful z s
   pub counts : EachCountsHolders z s
   pub guarded : EachGuardedIsLawful lawful z s
   pub lists : EachListInOneHand z s

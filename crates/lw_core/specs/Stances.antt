@@ -8,7 +8,7 @@ use Rattle.lw_core.specs.declared.view.Want.{Want}
 use Rattle.lw_core.specs.declared.view.Want.TheVariants as want
 use Rattle.lw_core.specs.declared.view.Waiter.{Waiter}
 use Rattle.lw_core.specs.Words.{Waiters}
-use Rattle.lw_core.specs.WaitLists.{same_want, times, times_with, taken_from, home_of}
+use Rattle.lw_core.specs.WaitLists.{same_want, times_on, times_with, taken_from, home_of}
 use Rattle.lw_core.specs.Machine.{Place}
 
 -- a lock with its list in hand, as it was found
@@ -217,18 +217,18 @@ hand_list (Some h) = h.list
 
 -- how often p is on the list in hand, and on that of l with this want
 abbrev pub hand_times : ℕ → Stance → ℕ
-hand_times p v = times p (hand_list v.hand)
+hand_times p v = times_on p (hand_list v.hand)
 
 abbrev pub hand_with : ℕ → ℕ → Want → Option Hand → ℕ
 hand_with l p w None = 0
 hand_with l p w (Some h) = cond (h.lock == l) (times_with p w h.list) 0
 
 abbrev pub home_times : ℕ → maybe.Option Waiters → ℕ
-home_times p o = times p (home_of (maybe.some o))
+home_times p o = times_on p (home_of (maybe.some o))
 
 -- how often p is on a list, at home or in hand
-abbrev pub listed : ℕ → List (maybe.Option Waiters) → List Stance → ℕ
-listed p homes seats = total (home_times p) homes + total (hand_times p) seats
+abbrev pub on_lists : ℕ → List (maybe.Option Waiters) → List Stance → ℕ
+on_lists p homes seats = total (home_times p) homes + total (hand_times p) seats
 
 -- 1 where p is in a round, and where it may be on the list of l with this want
 abbrev pub in_round : ℕ → Stance → ℕ
@@ -242,4 +242,4 @@ abbrev pub may_be_listed : ℕ → Want → ℕ → Stance → ℕ
 may_be_listed l w p v = count_if (entry_is l w v.queued) (is_own p v.own)
 
 abbrev pub unlisted_times : ℕ → Stance → ℕ
-unlisted_times p v = times p v.unlisted
+unlisted_times p v = times_on p v.unlisted

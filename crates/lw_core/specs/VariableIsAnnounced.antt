@@ -6,7 +6,7 @@ use Rattle.lw_core.specs.declared.view.Frame.TheVariants.{TakingList, Spinning, 
 use Rattle.lw_core.specs.declared.view.View.{View}
 use Rattle.lw_core.specs.Words.{Waiters, release_ok, has_flag}
 use Rattle.lw_core.specs.Machine.{Place}
-use Rattle.lw_core.specs.Stances.{listed, stance_of}
+use Rattle.lw_core.specs.Stances.{on_lists, stance_of}
 
 -- a lock, and a value of its variable
 pub record Watch : Type 0 where
@@ -66,6 +66,6 @@ pub record Updates (l : ℕ) (views : List View) : Type 0 where
 
 -- Of the lock l, with its state word and its variable: while a backend that watches the variable is on the list RELEASE_OK is set; where it sleeps and is on the list the variable is still the old one, or somebody updates l; and who has the list in hand and read the variable has read what it is
 pub record VariableIsAnnounced (l word variable : ℕ) (homes : List (maybe.Option Waiters)) (views : List View) : Type 0 where
-  pub allowed : (id p old : ℕ) (v : View) → get_elem? views id ≡ maybe.some v → v.own ≡ Some p → watches_at v.place ≡ watch_of l old → 1 ≤ listed p homes (map stance_of views) → has_flag release_ok word ≡ 1
-  pub announced : (id p old : ℕ) (v : View) → get_elem? views id ≡ maybe.some v → v.own ≡ Some p → sleeps_for_at v.place ≡ watch_of l old → 1 ≤ listed p homes (map stance_of views) → (variable ≡ old) ⊎ Updates l views
+  pub allowed : (id p old : ℕ) (v : View) → get_elem? views id ≡ maybe.some v → v.own ≡ Some p → watches_at v.place ≡ watch_of l old → 1 ≤ on_lists p homes (map stance_of views) → has_flag release_ok word ≡ 1
+  pub announced : (id p old : ℕ) (v : View) → get_elem? views id ≡ maybe.some v → v.own ≡ Some p → sleeps_for_at v.place ≡ watch_of l old → 1 ≤ on_lists p homes (map stance_of views) → (variable ≡ old) ⊎ Updates l views
   pub read : (id n : ℕ) (v : View) → get_elem? views id ≡ maybe.some v → reads_at v.place ≡ watch_of l n → variable ≡ n

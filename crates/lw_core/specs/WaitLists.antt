@@ -17,9 +17,9 @@ same_want UntilFree UntilFree = true
 same_want a b = false
 
 -- how often the backend p is on the list, and how often with this want
-abbrev pub times : ℕ → List Waiter → ℕ
-times p [] = 0
-times p (w ∷ ws) = cond (w.proc == p) 1 0 + times p ws
+abbrev pub times_on : ℕ → List Waiter → ℕ
+times_on p [] = 0
+times_on p (w ∷ ws) = cond (w.proc == p) 1 0 + times_on p ws
 
 abbrev pub times_with : ℕ → Want → List Waiter → ℕ
 times_with p want [] = 0

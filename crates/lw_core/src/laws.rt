@@ -1,10 +1,11 @@
 //! The laws over states and over runs. Each function does nothing: its contract is the law.
 ghost use Rattle.std.specs.Prelude.{◌<◌, ◌≤◌, List};
 ghost use Rattle.lw_core.specs.Machine.{LwState};
+ghost use Rattle.lw_core.specs.FramesStand.{FramesStand};
 ghost use Rattle.lw_core.specs.Rule.{Rule, NumbersStand, EachWordIsMade, PlacesFit, EachCountsHolders, EachGuardedIsLawful, EachListInOneHand, EachHandInside, EachListedOnce, EachWaitingTells, EachFlagCovers, EachReleaseOkIsOwed, EachWakeIsConserved, EachMarkerPosts, EachFreeLockIsAnswered, EachVariableIsAnnounced};
 ghost use Rattle.lw_core.specs.Runs.{Event, Run};
 ghost use Rattle.lw_core.specs.NoLostWake.{NoWakeIsLost, NoFreeLockIsSleptFor, NoStaleSleep};
-ghost use Rattle.lw_core.specs.Promises.{KeptByEach, IsOpening, HoldsInRuns, HoldersAgree, UnheldAreLawful, LastHoldsAlone, WordsStand};
+ghost use Rattle.lw_core.specs.Promises.{KeptByEach, IsOpening, HoldsInRuns, EachCallGoesOn, HoldersAgree, UnheldAreLawful, LastHoldsAlone, WordsStand};
 
 use crate::rule::Guarded;
 use crate::view::Size;
@@ -26,6 +27,12 @@ pub fn words_are_made<G: Guarded>(size: Size)
 /// Each seat's place says rightly what the seat holds and what is to follow.
 pub fn places_fit<G: Guarded>(size: Size)
     ensures { KeptByEach G.lawful size PlacesFit }
+{}
+
+/// What a seat's place names is the table's, and who will let go of a lock after a store leaves lawful
+/// words.
+pub fn frames_stand<G: Guarded>(size: Size)
+    ensures { KeptByEach G.lawful size (FramesStand G.lawful size) }
 {}
 
 /// Each lock's word counts its holders.
@@ -112,6 +119,15 @@ pub fn the_rule_loses_no_wake<G: Guarded>(size: Size)
     ensures pending { (s : LwState) → Rule G.lawful size s → NoWakeIsLost size s }
     ensures answered { (s : LwState) → Rule G.lawful size s → NoFreeLockIsSleptFor size s }
     ensures current { (s : LwState) → Rule G.lawful size s → NoStaleSleep size s }
+{}
+
+/// A seat that is in a call has a step that its place allows: no program is stuck. Nothing is said of
+/// whether it is made.
+pub fn each_call_goes_on<G: Guarded>(size: Size)
+    requires locks { size.locks ≤ 200 }
+    requires procs { (0 < size.procs) × (size.procs ≤ 64) }
+    ensures state { (s : LwState) → Rule G.lawful size s → EachCallGoesOn G.lawful size s }
+    ensures runs { HoldsInRuns G.lawful size (EachCallGoesOn G.lawful size) }
 {}
 
 /// In every run from a new table, no two backends hold one lock in conflicting modes.

@@ -1,6 +1,6 @@
 //! The one place where a word of a running table is read or changed.
 ghost use Rattle.std.specs.Prelude.{◌≡◌, ◌<◌};
-ghost use Rattle.lw_core.specs.Ops.{about, gives, Owes};
+ghost use Rattle.lw_core.specs.Ops.{about, result_of, TableAllows};
 ghost use Rattle.lw_core.specs.Told.{does};
 
 use crate::rule::{Does, Doing, Guarded, LwRule};
@@ -19,7 +19,7 @@ pub(crate) fn turn<K: Doing, G: Guarded>(
     requires table { (seat.old.table_id ≡ shared.now.table_id)
         × (word < shared.now.table_id.words) }
     requires size { K.size ≡ shared.now.key }
-    requires owes { Owes G.lawful shared.now.key shared.now.table_id.slots seat.old.id seat.old.me word (gives op) K.step }
+    requires allowed { TableAllows G.lawful shared.now.key shared.now.table_id.slots seat.old.id seat.old.me word (result_of op) K.step }
     ensures table { (seat.new.table_id ≡ seat.old.table_id) × (seat.new.id ≡ seat.old.id) }
     ensures told { does G.lawful shared.now.key K.step about seat.old.me result seat.new.me }
 {

@@ -19,9 +19,9 @@ abbrev pub found_at : Place → List Waiter
 found_at p = hand_list (hand_at p)
 
 -- who marks waiters of the list in hand updates the lock's variable; else it wakes after a release
-abbrev pub updates_at : Place → Bool
-updates_at (Calling l found marked rest ∷ p) = true
-updates_at p = false
+abbrev pub is_calling : Place → Bool
+is_calling (Calling l found marked rest ∷ p) = true
+is_calling p = false
 
 -- the release before a wake came after a store of the lock's variable
 abbrev pub updated_at : Place → Bool

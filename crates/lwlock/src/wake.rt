@@ -7,7 +7,7 @@ ghost use Rattle.lw_core.specs.Programs.{BeginsNone, MakesFrom};
 ghost use Rattle.lw_core.specs.WaitLists.{AllBelow, has_locker, kept_from, same_want, taken_from};
 ghost use Rattle.lw_core.specs.Words.{grant_of};
 ghost use Rattle.lwlock.specs.Calls.{Released, Went};
-ghost use Rattle.lwlock.specs.Wakes.{Exchanged, Wakes, WakesRightly, WentBy, answered_to, found_at, marked_by, marking, told_by, updated_at, updates_at, woken_to};
+ghost use Rattle.lwlock.specs.Wakes.{Exchanged, Wakes, WakesRightly, WentBy, answered_to, found_at, marked_by, marking, told_by, updated_at, is_calling, woken_to};
 
 use crate::attempt::{EXCLUSIVE, LOCK_MASK};
 use crate::queue::{LOCKED, take_list};
@@ -143,9 +143,9 @@ pub fn mark<G: Guarded>(
     requires table { seat.old.table_id ≡ table.now.table_id }
     requires few { table.now.procs ≤ 64 }
     requires taken { AllBelow table.now.procs taken.now.items }
-    requires place { seat.old.view.place ≡ marking (updates_at seat.old.view.place) lock (updated_at seat.old.view.place) (found_at seat.old.view.place) [] taken.now.items ∷ [] }
+    requires place { seat.old.view.place ≡ marking (is_calling seat.old.view.place) lock (updated_at seat.old.view.place) (found_at seat.old.view.place) [] taken.now.items ∷ [] }
     ensures table { (seat.new.table_id ≡ seat.old.table_id) × (seat.new.id ≡ seat.old.id) }
-    ensures view { WentBy (marked_by taken.now.items) (marking (updates_at seat.old.view.place) lock (updated_at seat.old.view.place) (found_at seat.old.view.place) taken.now.items [] ∷ []) seat.old.view seat.new.view }
+    ensures view { WentBy (marked_by taken.now.items) (marking (is_calling seat.old.view.place) lock (updated_at seat.old.view.place) (found_at seat.old.view.place) taken.now.items [] ∷ []) seat.old.view seat.new.view }
     ensures list { seat.new.list ≡ seat.old.list }
     ensures program { BeginsNone seat.old.view seat.new.view }
 {
@@ -203,7 +203,7 @@ pub fn tell<G: Guarded>(table: &LwTable<G>, seat: &mut LwSeat, taken: &ArrayVec<
 }
 
 // Wakes waiters of a lock that was let go (`LWLockWakeup`).
-#[tactic(auto, using(crate::proofs::Waiting::taken_below))]
+#[tactic(auto, using(lw_core::proofs::Below::taken_below))]
 fn wake<G: Guarded, R: Wait>(rt: &R, table: &LwTable<G>, seat: &mut LwSeat, lock: LockNo)
     requires table { seat.old.table_id ≡ table.now.table_id }
     requires lock { lock < table.now.locks }

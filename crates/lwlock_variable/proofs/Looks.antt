@@ -16,7 +16,7 @@ use Rattle.lwlock.specs.Calls.{FoundInCall, went}
 use Rattle.lwlock.proofs.Later.{found_before, found_since}
 use Rattle.lwlock_variable.specs.declared.VarWait.{VarWait}
 use Rattle.lwlock_variable.specs.declared.VarWait.TheVariants.{Free, Changed}
-use Rattle.lwlock_variable.specs.Waits.{BeginsComparing, Ends, OnChanged, OnFree, behind}
+use Rattle.lwlock_variable.specs.Waits.{BeginsComparing, WaitEnds, OnChanged, OnFree, behind}
 
 -- where the lock has an exclusive holder the variable is to be read
 to_read : (l old n : ℕ) (b : Option Call) (v : View) → BeginsComparing l old b v → is_free Shared n ≡ false → peeked b v.surplus n v.place ≡ TakingList l ∷ Comparing l old ∷ behind b v.place
@@ -43,27 +43,19 @@ compares l old n m o b x y z found more v a u d w may held looked taken read hom
     ∙ (λ i. record v { place = sent_home v.surplus (compared m (in_hand found (outer (to_read l old n b v may held i)))); steps = in_order v.steps more (made (Peek l b) n) (made (VarLoad l) m) (made (Unlock l false) o) i }))))
 
 -- what was found in a part of a call was found in the call
-pub ends_before : (l old : ℕ) (a : VarWait) (v u w : View) → Ends l old a u w → (more : List Made) → u.steps ≡ v.steps ++ more → Ends l old a v w
+pub ends_before : (l old : ℕ) (a : VarWait) (v u w : View) → WaitEnds l old a u w → (more : List Made) → u.steps ≡ v.steps ++ more → WaitEnds l old a v w
 ends_before l old (Free seen) v u w ends more e = (ends.0, (ends.1.0, found_before v u w (Peek l ends.1.0) seen ends.1.1 more e))
 ends_before l old (Changed value) v u w ends more e = (ends.0, found_before v u w (VarLoad l) value ends.1 more e)
 
 -- and where it went on after that part
-pub ends_within : (l old : ℕ) (a : VarWait) (v u w x : View) → Ends l old a u w → (first last : List Made) → u.steps ≡ v.steps ++ first → x.steps ≡ w.steps ++ last → Ends l old a v x
+pub ends_within : (l old : ℕ) (a : VarWait) (v u w x : View) → WaitEnds l old a u w → (first last : List Made) → u.steps ≡ v.steps ++ first → x.steps ≡ w.steps ++ last → WaitEnds l old a v x
 ends_within l old (Free seen) v u w x ends first last began ended = (ends.0, (ends.1.0, found_since v w x (Peek l ends.1.0) seen (found_before v u w (Peek l ends.1.0) seen ends.1.1 first began) last ended))
 ends_within l old (Changed value) v u w x ends first last began ended = (ends.0, found_since v w x (VarLoad l) value (found_before v u w (VarLoad l) value ends.1 first began) last ended)
 
-pub was_looked_at : (l old : ℕ) (a : VarWait) (v w : View) → Ends l old a v w → OnFree a (λ seen. (begins : Option Call) × FoundInCall v w (Peek l begins) seen)
+pub was_looked_at : (l old : ℕ) (a : VarWait) (v w : View) → WaitEnds l old a v w → OnFree a (λ seen. (begins : Option Call) × FoundInCall v w (Peek l begins) seen)
 was_looked_at l old (Free seen) v w ends = ends.1
 was_looked_at l old (Changed value) v w ends = tt
 
-pub was_read : (l old : ℕ) (a : VarWait) (v w : View) → Ends l old a v w → OnChanged a (λ value. FoundInCall v w (VarLoad l) value)
+pub was_read : (l old : ℕ) (a : VarWait) (v w : View) → WaitEnds l old a v w → OnChanged a (λ value. FoundInCall v w (VarLoad l) value)
 was_read l old (Free seen) v w ends = tt
 was_read l old (Changed value) v w ends = ends.1
-
-on_head : (procs : ℕ) (b : Bool) (w : Waiter) (ws : List Waiter) → w.proc < procs → AllBelow procs ws → AllBelow procs (cond b (w ∷ ws) [])
-on_head procs true w ws here below = (here, below)
-on_head procs false w ws here below = tt
-
-pub until_free_below : (procs : ℕ) (ws : List Waiter) → AllBelow procs ws → AllBelow procs (until_free_from ws)
-until_free_below procs [] below = below
-until_free_below procs (w ∷ ws) below = on_head procs (same_want w.want UntilFree) w (until_free_from ws) below.0 (until_free_below procs ws below.1)

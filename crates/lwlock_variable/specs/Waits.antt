@@ -53,12 +53,12 @@ abbrev pub FoundChanged : ℕ → ℕ → ℕ → View → View → Type 0
 FoundChanged l old value v w = (value ≢ old) × FoundInCall v w (VarLoad l) value
 
 -- the answer was found in the call
-abbrev pub Ends : ℕ → ℕ → VarWait → View → View → Type 0
-Ends l old (Free seen) v w = FoundFree l seen v w
-Ends l old (Changed value) v w = FoundChanged l old value v w
+abbrev pub WaitEnds : ℕ → ℕ → VarWait → View → View → Type 0
+WaitEnds l old (Free seen) v w = FoundFree l seen v w
+WaitEnds l old (Changed value) v w = FoundChanged l old value v w
 
 abbrev pub Finds : ℕ → ℕ → Option VarWait → View → View → Type 0
-Finds l old (Some answer) v w = Ends l old answer v w
+Finds l old (Some answer) v w = WaitEnds l old answer v w
 Finds l old None v w = ⊤
 
 -- to queue for the variable, set RELEASE_OK and look again
@@ -71,5 +71,5 @@ RoundEnds l old (round.Ended answer more) v w = WentWith (resumed (v.surplus + m
 RoundEnds l old (round.Woken more) v w = WentWith (Peeking l old ∷ VarUnqueued l old ∷ []) (v.surplus + more) v w × (v.surplus + more < 2 ^ 32)
 
 abbrev pub RoundAnswers : ℕ → ℕ → Round → View → View → Type 0
-RoundAnswers l old (round.Ended answer more) v w = Ends l old answer v w
+RoundAnswers l old (round.Ended answer more) v w = WaitEnds l old answer v w
 RoundAnswers l old (round.Woken more) v w = ⊤

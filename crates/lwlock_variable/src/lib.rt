@@ -70,7 +70,7 @@ pub fn wait_for_var<G: Guarded, R: Wait>(
 
 /// Stores the variable of a lock that is held exclusively, and wakes those who wait for it
 /// (`LWLockUpdateVar`).
-#[tactic(auto, using(crate::proofs::Looks::until_free_below))]
+#[tactic(auto, using(lw_core::proofs::Below::until_free_below))]
 pub fn update_var<G: Guarded, R: Wait>(
     rt: &R,
     table: &LwTable<G>,

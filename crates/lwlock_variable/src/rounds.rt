@@ -6,7 +6,7 @@ ghost use Rattle.lw_core.specs.declared.view.Frame.TheVariants.{GivingBack};
 ghost use Rattle.lw_core.specs.Machine.{resumed};
 ghost use Rattle.lw_core.specs.Programs.{BeginsNone};
 ghost use Rattle.lwlock.specs.Calls.{WentWith};
-ghost use Rattle.lwlock_variable.specs.Waits.{Ends, RoundAnswers, RoundEnds, queues};
+ghost use Rattle.lwlock_variable.specs.Waits.{WaitEnds, RoundAnswers, RoundEnds, queues};
 
 use crate::VarWait;
 use crate::compare::compare;
@@ -74,7 +74,7 @@ pub(crate) fn wait<G: Guarded, R: Wait>(
     requires surplus { seat.old.view.surplus ≡ 0 }
     ensures table { (seat.new.table_id ≡ seat.old.table_id) × (seat.new.id ≡ seat.old.id) }
     ensures view { WentWith (resumed result.surplus (GivingBack ∷ [])) result.surplus seat.old.view seat.new.view }
-    ensures ends { Ends lock old result.answer seat.old.view seat.new.view }
+    ensures ends { WaitEnds lock old result.answer seat.old.view seat.new.view }
     ensures program { BeginsNone seat.old.view seat.new.view }
 {
     let mut surplus = 0;

@@ -183,7 +183,7 @@ fn tells<R: Abort>(
 }
 
 // An update that wakes backend 1 alone.
-#[tactic(auto, using(crate::proofs::Looks::until_free_below))]
+#[tactic(auto, using(lw_core::proofs::Below::until_free_below))]
 fn updates<R: Abort>(rt: &R, table: &LwTable<AnyWords>, seat: &mut LwSeat, lock: LockNo, value: u64)
     requires table { (seat.old.table_id ≡ table.now.table_id) × (lock < table.now.locks) }
     requires held { (seat.old.view.place ≡ []) × (mode_in lock seat.old.view ≡ Some Exclusive) }

@@ -1,6 +1,7 @@
 -- Each step leaves a word that the steps of the seats account for.
-use Rattle.std.proofs.Common.{◌≡◌, ◌≢◌, ℕ, ◌+◌, ◌-◌, ◌<◌, ◌==◌, cond, List, [], ◌∷◌, ◌++◌, length, map, get_or, set, refl, sym, ap, ◌∙◌, arith, get_or-set_same, get_or-set_other, eq-eqb}
+use Rattle.std.proofs.Common.{◌≡◌, ◌≢◌, ℕ, ◌+◌, ◌-◌, ◌<◌, ◌==◌, cond, List, [], ◌∷◌, ◌++◌, length, map, get_or, set, refl, sym, ap, ◌∙◌, subst, arith, get_or-set_same, get_or-set_other, eq-eqb}
 use Rattle.std.proofs.lemmas.Bool.{ne_eqb}
+use mathlib.Core.List.{map-append}
 use mathlib.Core.Logic.{dite}
 use mathlib.Core.Option.{some}
 use native.Mathlib.Decide.{ℕ_discrete}
@@ -34,6 +35,10 @@ one_more {M} by o steps taken m is f =
 -- a seat that takes over all steps of another
 pub both_taken : {M : Type 0} (own taken others : List (ℕ × M)) → Both (own ++ taken) others (own ++ (taken ++ others))
 both_taken own taken others f = let a = total_append f own taken in let b = total_append f own (taken ++ others) in let c = total_append f taken others in omega arith
+
+-- the same, where what a seat took over is kept in another form
+pub both_signed : {M I : Type 0} (sign : I → ℕ × M) (own : List (ℕ × M)) (taken theirs : List I) (others : List (ℕ × M)) → map sign theirs ≡ others → Both (own ++ map sign taken) others (own ++ map sign (taken ++ theirs))
+both_signed {M} sign own taken theirs others is = subst (λ (l : List (ℕ × M)). Both (own ++ map sign taken) others (own ++ l)) (sym (map-append sign taken theirs ∙ ap (λ (l : List (ℕ × M)). map sign taken ++ l) is)) (both_taken own (map sign taken) others)
 
 module _ {M : Type 0} (e : Effect M) (opened : ℕ → ℕ) (count : ℕ) (words : List ℕ) (seats : List (List (ℕ × M))) (h : AreMade e opened count words seats) where
   -- a seat makes a step

@@ -11,7 +11,7 @@ use Rattle.wait_core.specs.declared.view.Inherited.{Inherited}
 use Rattle.wait_core.specs.declared.view.Made.{Made}
 use Rattle.wait_core.specs.declared.view.Size.{Size}
 use Rattle.seat_roster.specs.WordsAreMade.{signed as signed_by, AreMade}
-use Rattle.seat_roster.proofs.WordsAreMade.{Both, one_more, both_taken}
+use Rattle.seat_roster.proofs.WordsAreMade.{Both, one_more, both_signed}
 use Rattle.seat_roster.proofs.WordsAreMade as roster
 use Rattle.wait_core.specs.Words.{client_base}
 use Rattle.wait_core.specs.Machine.{number_of, word_of, becomes, made_with}
@@ -31,9 +31,8 @@ signed_same own (m ∷ steps) = ap (λ (l : List (ℕ × Made)). (number_of own,
 
 -- a seat that took in another has the steps of both
 both_made : (v w : Doings) → Both (all_steps v) (all_steps w) (all_steps (took_over v w))
-both_made v w = subst (λ (l : List (ℕ × Made)). Both (all_steps v) (all_steps w) (signed_by (number_of v.own) v.steps ++ l))
-    (sym (map-append sign v.inherited (signed w.own w.steps ++ w.inherited) ∙ ap (λ (l : List (ℕ × Made)). map sign v.inherited ++ l) (map-append sign (signed w.own w.steps) w.inherited ∙ ap (λ (l : List (ℕ × Made)). l ++ map sign w.inherited) (signed_same w.own w.steps))))
-    (both_taken (signed_by (number_of v.own) v.steps) (map sign v.inherited) (all_steps w))
+both_made v w = both_signed sign (signed_by (number_of v.own) v.steps) v.inherited (signed w.own w.steps ++ w.inherited) (all_steps w)
+    (map-append sign (signed w.own w.steps) w.inherited ∙ ap (λ (l : List (ℕ × Made)). l ++ map sign w.inherited) (signed_same w.own w.steps))
 
 module _ (z : Size) where
   abbrev Accounts : List ℕ → List (List (ℕ × Made)) → Type 0

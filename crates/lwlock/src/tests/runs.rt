@@ -184,7 +184,7 @@ fn tells<R: Abort>(
 }
 
 // A release that wakes these backends, with the words that its steps on the state word find.
-#[tactic(auto, using(crate::proofs::Waiting::taken_below))]
+#[tactic(auto, using(lw_core::proofs::Below::taken_below))]
 pub(crate) fn wakes<R: Abort>(
     rt: &R,
     table: &LwTable<AnyWords>,

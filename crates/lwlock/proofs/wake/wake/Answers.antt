@@ -6,7 +6,7 @@ use Rattle.lw_core.specs.declared.view.View.{View}
 use Rattle.lw_core.specs.Machine.{Place, in_hand, made, outer, woken_word}
 use Rattle.lw_core.specs.WaitLists.{taken_from, kept_from}
 use Rattle.lw_core.proofs.Programs.{counted_since}
-use Rattle.lwlock.specs.Wakes.{found_at, marked_by, takes_in_hand, told_by, updated_at, updates_at}
+use Rattle.lwlock.specs.Wakes.{found_at, marked_by, takes_in_hand, told_by, updated_at, is_calling}
 use Rattle.lwlock.proofs.Telling.{marks_found}
 use Rattle.lwlock.proofs.wake.wake.Goals as goal
 
@@ -18,7 +18,7 @@ returns-clause-woken g c =
     let l = c.args.lock in let v = c.args.seat.now.view in let a = c.take_list.new.seat.view in let b = c.mark.new.seat.view in let list = c.take_list.new.seat.list in
     let took = c.take_list.ensures.view in let marked = c.mark.ensures.view in let x = c.detach.ensures.exchanged in let told = c.tell.ensures.view in
     let hand : found_at a.place ≡ list = ap (λ (x : View). found_at x.place) took.1 ∙ ap (λ (p : Place). found_at (in_hand list (outer p))) c.requires.place in
-    let found : found_at b.place ≡ list = ap (λ (x : View). found_at x.place) marked.1.0 ∙ (marks_found (updates_at a.place) l (updated_at a.place) (found_at a.place) c.part-taken.result.items [] [] ∙ hand) in
+    let found : found_at b.place ≡ list = ap (λ (x : View). found_at x.place) marked.1.0 ∙ (marks_found (is_calling a.place) l (updated_at a.place) (found_at a.place) c.part-taken.result.items [] [] ∙ hand) in
     let taken : c.part-taken.result.items ≡ taken_from (found_at b.place) = c.part-taken.ensures.taken ∙ ap taken_from (c.list.ensures.value ∙ sym found) in
     let last : Made = made (Wake l x.word (woken_word (taken_from (found_at b.place)) (kept_from (found_at b.place)) x.word)) x.word in (
       took.0 ++ (marked.0 ++ (x.seeking ++ (last ∷ told.0))),
