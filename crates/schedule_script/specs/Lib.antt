@@ -1,0 +1,6 @@
+pub mod Lines
+pub mod LineViews
+pub mod Play
+pub mod Moments
+pub mod Signals
+pub mod SignalSketch

@@ -1,0 +1,10 @@
+//! Scripts that name the steps of backends one by one, replayed on the machines of locks, waits and
+//! signals.
+#![tactic(auto)]
+
+mod lines;
+mod machine;
+mod play;
+mod signals;
+
+pub use play::ScriptFault;
