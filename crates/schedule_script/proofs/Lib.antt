@@ -1,2 +1,4 @@
 pub mod LineFacts
 pub mod PlayFacts
+pub mod KindFacts
+pub mod SignalFacts

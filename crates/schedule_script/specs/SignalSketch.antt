@@ -55,10 +55,14 @@ turn s p b a =
 abbrev pub steps : Sketch → ℕ → Option (Sketch × List ℕ)
 steps s p = if nat_lt p s.about.procs then option_map (turn s p (backend_at s p)) (backend_at s p).ask else None
 
--- the words from i on, so many, that differ from their opening
+-- the word i, which is x now, where it differs from its opening
+abbrev pub changed_word : About → ℕ → ℕ → List ℕ
+changed_word z x i = if x == opened z i then [] else word_name i ++ codes " " ++ decimal x ++ codes "\n"
+
+-- the words from i on that differ from their opening
 unfoldable pub changed_words : About → List ℕ → ℕ → List ℕ
 changed_words z [] i = []
-changed_words z (x ∷ words) i = (if x == opened z i then [] else word_name i ++ codes " " ++ decimal x ++ codes "\n") ++ changed_words z words (i + 1)
+changed_words z (x ∷ words) i = changed_word z x i ++ changed_words z words (i + 1)
 
 abbrev pub ends : Sketch → List ℕ
 ends s = codes "final\n" ++ changed_words s.about (drop 1 s.words) 1

@@ -113,13 +113,17 @@ abbrev pub kinds_text : List ℕ → List ℕ
 kinds_text [] = []
 kinds_text (k ∷ kinds) = codes " " ++ decimal k ++ kinds_text kinds
 
+-- the kinds of a mask, from the lowest
+unfoldable pub kinds_in : ℕ → List ℕ
+kinds_in found = kinds_below 32 (bit_at found)
+
 abbrev pub published_by : Option Slot → ℕ
 published_by None = 0
 published_by (Some t) = t.published
 
 -- what a call answers that ends: by the place before its last step and what the step found, and by the slot and the last number of an emission after it
 abbrev pub absorb_answer : Place → ℕ → List ℕ
-absorb_answer (Some (Taking h found)) published = codes "published " ++ decimal h ++ kinds_text (kinds_below 32 (bit_at found))
+absorb_answer (Some (Taking h found)) published = codes "published " ++ decimal h ++ kinds_text (kinds_in found)
 absorb_answer (Some (Reminding h found failed k)) published = codes "kept " ++ decimal failed
 absorb_answer place published = codes "idle " ++ decimal published
 

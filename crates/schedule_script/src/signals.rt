@@ -1,15 +1,23 @@
 //! A script on the machine of signals.
-ghost use Rattle.std.specs.Prelude.{◌≡◌, ◌≤◌, ◌<◌, ◌+◌, ◌++◌, ◌^◌, ⊤, IfOk, OnOk, length, decimal, codes};
-ghost use Rattle.signal_core.specs.Words.{opened, worn};
-ghost use Rattle.signal_core.specs.Machine.{InRange, becomes, begun, compared, headed, looked, numbered, place_after, posted, prodded, slot_after, swapped, told};
-ghost use Rattle.signal_core.specs.Machine.{opened as opened_place};
-ghost use Rattle.schedule_script.specs.Signals.{ask_of, asked, emitted_after, failing_of, first_step, lowest, may_begin, numbered_ask, plain_ask, step_at, step_in, still};
-ghost use Rattle.schedule_script.specs.SignalSketch.{AskFits, FrameFits, PlaceFits, StepFits};
+ghost use Rattle.std.specs.Prelude.{◌≡◌, ◌≤◌, ◌<◌, ◌+◌, ◌-◌, ◌++◌, ◌^◌, ◌⊎◌, Some, OnOk};
+ghost use Rattle.signal_core.specs.declared.step.SigStep.TheVariants.{Hadd};
+ghost use Rattle.schedule_script.specs.Play.{step_limit};
+ghost use Rattle.schedule_script.specs.SignalSketch.{HeaderFits, PlaceFits, backend_at, turn, went};
 
-use crate::lines::{cut_word, is_word};
-use decimal_word::number_of;
+mod calls;
+mod places;
+mod steps;
+mod texts;
+
+use crate::machine::Machine;
+use calls::{ask_of, may_begin};
+use places::{becomes, emitted_after, place_after, slot_after};
+use steps::step_at;
+use texts::{push, push_changed, push_turn};
 use proc_table::ProcNo;
-use signal_core::{About, Call, Frame, SigStep, Slot};
+use signal_core::{About, Frame, SigStep, Slot};
+use std::alloc::AllocError;
+use std::marker::Model;
 
 /// A call of a script on signals.
 #[derive(Clone, Copy)]
@@ -34,146 +42,113 @@ pub(crate) struct Backend {
     pub(crate) emitted: u64,
 }
 
-// The header from which on nobody emits any more.
-const WORN: u64 = 0x4000_0000_0000_0000;
+/// The words and the backends of a machine of signals.
+#[derive(Drop)]
+pub(crate) struct Signals {
+    about: About,
+    words: Vec<u64>,
+    backends: Vec<Backend>,
+}
 
-// THE CALLS, by their words.
+impl Model for Signals {
+    ghost use Rattle.schedule_script.specs.SignalSketch.{Sketch, Fits};
 
-fn plain_ask(word: &[u8]) -> Option<Ask>
-    ensures { result ≡ plain_ask word.now }
+    ghost Value = { Sketch };
+
+    ghost view = { λ s. record { about = s.about; words = s.words.items; backends = s.backends.items } };
+
+    ghost invariant = { λ s. Fits record { about = s.about; words = s.words.items; backends = s.backends.items } };
+}
+
+// A backend after a step.
+fn went(about: About, step: &SigStep, found: u64, backend: Backend) -> Backend
+    requires place { PlaceFits about.procs backend.place × (about.procs ≤ 64) }
+    requires room { found < 2 ^ 64 - 1 ⊎ (step.now ≡ Hadd → ⊥) }
+    ensures { result ≡ went about step.now found backend }
 {
-    if is_word(word, "join") {
-        Some(Ask::Join)
-    } else if is_word(word, "leave") {
-        Some(Ask::Leave)
-    } else if is_word(word, "absorb") {
-        Some(Ask::Absorb(0))
-    } else {
-        None
+    let place = place_after(about, step, found, backend.place);
+    Backend {
+        ask: if place.is_some() { backend.ask } else { None },
+        place,
+        slot: slot_after(step, backend.place, backend.slot),
+        emitted: emitted_after(step, backend.place, found, backend.emitted),
     }
 }
 
-fn numbered_ask(word: &[u8], argument: &[u8]) -> Option<Ask>
-    ensures { result ≡ numbered_ask word.now argument.now }
-{
-    if is_word(word, "emit") {
-        return match number_of(argument, 0, 31) {
-            Some(kind) => Some(Ask::Emit(kind as u32)),
-            None => None,
-        };
-    }
-    if is_word(word, "absorb") {
-        return match number_of(argument, 0, u64::MAX) {
-            Some(failing) => Some(Ask::Absorb(failing)),
-            None => None,
-        };
-    }
-    None
-}
-
-// The call that a text names.
-fn ask_of(call: &[u8]) -> Option<Ask>
-    ensures ask { result ≡ ask_of call.now }
-    ensures fits { AskFits result }
-{
-    let cut = cut_word(call);
-    match cut.after {
-        None => plain_ask(cut.word),
-        Some(argument) => numbered_ask(cut.word, argument),
-    }
-}
-
-// Whether a backend with this slot may begin a call.
-fn may_begin(ask: Ask, slot: Option<Slot>) -> bool
-    ensures { result ≡ may_begin ask slot }
-{
-    match ask {
-        Ask::Join => slot.is_none(),
-        Ask::Leave | Ask::Absorb(_) => slot.is_some(),
-        Ask::Emit(_) => true,
+impl Signals {
+    // A backend that is in a call makes its next step, and prints it.
+    fn turn(
+        &mut self,
+        made: u64,
+        own: ProcNo,
+        ask: Ask,
+        out: &mut Vec<u8>,
+    ) -> Result<(), AllocError>
+        requires own { own < self.old.about.procs }
+        requires ask { (backend_at self.old own).ask ≡ Some ask }
+        requires header { HeaderFits self.old made }
+        requires few { made < step_limit }
+        ensures turned { OnOk result (self.new ≡ (turn self.old own (backend_at self.old own) ask).0) }
+        ensures text { OnOk result (out.new.items ≡ out.old.items ++ (turn self.old own (backend_at self.old own) ask).1) }
+        ensures header { OnOk result (HeaderFits self.new (made + 1)) }
+    {
+        let backend = self.backends[own.number() as usize];
+        let step = step_at(self.about.procs, own, ask, backend.place);
+        let word = step.word(own);
+        let found = self.words[word];
+        let left = becomes(&step, found);
+        let next = went(self.about, &step, found, backend);
+        self.words[word] = left;
+        self.backends[own.number() as usize] = next;
+        push_turn(out, own, ask, &step, word, found, left, backend, next)
     }
 }
 
-// THE STEP that comes next.
+impl Machine for Signals {
+    ghost use Rattle.schedule_script.specs.SignalSketch.{begins, steps, ends};
 
-fn first_step(ask: Ask) -> SigStep
-    ensures { result ≡ first_step ask }
-{
-    match ask {
-        Ask::Join => SigStep::Mswap(Some(Call::Join)),
-        Ask::Leave => SigStep::Gstore(u64::MAX, Some(Call::Leave)),
-        Ask::Emit(kind) => SigStep::Hload(Some(Call::Emit(kind, 0))),
-        Ask::Absorb(_) => SigStep::Pswap(Some(Call::Absorb)),
-    }
-}
+    ghost begins = { begins };
 
-// The kinds that an absorption is told to fail.
-fn failing_of(ask: Ask) -> u64
-    ensures { result ≡ failing_of ask }
-{
-    match ask {
-        Ask::Absorb(failing) => failing,
-        _ => 0,
-    }
-}
+    ghost steps = { steps };
 
-// Of the kinds from `done` on, the lowest that failed.
-fn lowest(failed: u64, done: u32) -> u32
-    requires { done ≤ 32 }
-    ensures lowest { result ≡ lowest failed (32 - done) }
-    ensures below { result < 32 }
-{
-    'kinds: for kind in done..32 {
-        if failed >> kind & 1 == 1 {
-            return kind;
+    ghost ends = { ends };
+
+    ghost holds = { HeaderFits };
+
+    fn begin(&mut self, proc: u64, call: &[u8]) -> bool {
+        if proc >= u64::from(self.about.procs) {
+            return false;
         }
+        let backend = self.backends[proc as usize];
+        let Some(ask) = ask_of(call) else {
+            return false;
+        };
+        if backend.ask.is_some() || !may_begin(ask, backend.slot) {
+            return false;
+        }
+        self.backends[proc as usize] = Backend {
+            ask: Some(ask),
+            ..backend
+        };
+        true
     }
-    31
-}
 
-// Where none failed of the kinds that were asked for the header is published, else the lowest is put
-// back.
-fn asked(own: ProcNo, header: u64, failed: u64) -> SigStep
-    ensures { result ≡ asked own header failed }
-{
-    if failed == 0 {
-        SigStep::Gstore(header, None)
-    } else {
-        SigStep::Mor(own, lowest(failed, 0), Some(failed))
+    fn step(&mut self, made: u64, proc: u64, out: &mut Vec<u8>) -> Result<bool, AllocError> {
+        if proc >= u64::from(self.about.procs) {
+            return Ok(false);
+        }
+        let Some(ask) = self.backends[proc as usize].ask else {
+            return Ok(false);
+        };
+        let Some(own) = ProcNo::new(proc as u32) else {
+            return Ok(false);
+        };
+        self.turn(made, own, ask, out)?;
+        Ok(true)
     }
-}
 
-// The backend of a number that is below 64.
-fn backend_of(number: u32) -> ProcNo
-    requires { number < 64 }
-    ensures { result ≡ number }
-{
-    match ProcNo::new(number) {
-        Some(backend) => backend,
-        None => unreachable!(),
-    }
-}
-
-// The step that the place of a backend names.
-fn step_in(procs: u32, own: ProcNo, failing: u64, frame: Frame) -> SigStep
-    requires few { procs ≤ 64 }
-    requires fits { FrameFits procs frame }
-    ensures step { result ≡ step_in own failing frame }
-    ensures within { StepFits procs own result }
-{
-    match frame {
-        Frame::Reading | Frame::Heading(_) => SigStep::Hload(None),
-        Frame::Opening(header) => SigStep::Gstore(header, None),
-        Frame::Entering(_) => SigStep::Pstore(u64::from(own.number()) + 1),
-        Frame::Leaving => SigStep::Pstore(0),
-        Frame::Posting(kind, _, slot) => SigStep::Mor(backend_of(slot), kind, None),
-        Frame::Numbering(_, _) => SigStep::Hadd,
-        Frame::Telling(slot) => SigStep::Pload(backend_of(slot)),
-        Frame::Prodding(slot) => SigStep::Pend(backend_of(slot)),
-        Frame::Comparing => SigStep::Gload(own, None),
-        Frame::Swapping(_) => SigStep::Mswap(None),
-        Frame::Taking(header, found) => asked(own, header, found & failing),
-        Frame::Keeping(_, _, failed, done) => SigStep::Mor(own, lowest(failed, done), None),
-        Frame::Reminding(..) => SigStep::Pend(own),
+    fn end(&self, out: &mut Vec<u8>) -> Result<(), AllocError> {
+        push(out, "final\n")?;
+        push_changed(out, self.about, self.words.as_slice())
     }
 }
