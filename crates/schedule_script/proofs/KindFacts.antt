@@ -5,7 +5,7 @@ use Rattle.std.specs.Prelude.{decimal}
 use Rattle.std.proofs.lemmas.List.{drop_all}
 use Rattle.signal_core.specs.declared.view.About.{About}
 use Rattle.signal_core.specs.Machine.{kinds_below}
-use Rattle.schedule_script.specs.SignalSketch.{changed_word, changed_words}
+use Rattle.schedule_script.specs.Signals.{changed_word, changed_words}
 use Rattle.std.proofs.lemmas.Bool.{cases_Bool, ne_eqb}
 use Rattle.std.proofs.lemmas.Nat.Bits.{shr_and_one}
 use Rattle.schedule_script.specs.Signals.{kinds_in, kinds_text, lowest}

@@ -1,8 +1,10 @@
 -- What a step leaves of a sketch.
-use Rattle.std.proofs.Common.{◌≡◌, ◌∙◌, ℕ, ◌+◌, ◌-◌, ◌*◌, ◌^◌, ◌<◌, ◌≤◌, nat_lt, bit_and, eqb, Bool, true, false, cond, List, length, set, get_or, Option, None, Some, Result, refl, sym, ap, subst, inl, inr, arith, get_or-set_same, get_or-set_other}
+use Rattle.std.proofs.Common.{◌≡◌, ◌∙◌, ℕ, ◌+◌, ◌-◌, ◌*◌, ◌^◌, ◌<◌, ◌≤◌, nat_lt, bit_and, eqb, Bool, true, false, cond, List, [], ◌∷◌, map, zero, suc, length, set, get_or, Option, None, Some, Result, refl, sym, ap, subst, inl, inr, arith, get_or-set_same, get_or-set_other}
 use Rattle.std.specs.Prelude.{OnOk, Ok, Err, slice_index}
 use Rattle.std.proofs.lemmas.Bool.{cases_Bool}
 use Rattle.std.proofs.lemmas.List.{length-set}
+use Rattle.std.proofs.lemmas.List.FromFn.{length-map-range_with_len}
+use Rattle.std.specs.List.{range_with_len}
 use Rattle.std.proofs.lemmas.Bool.Decides.{nat_tests}
 use mathlib.Core.Logic.{dite}
 use native.Mathlib.Decide.{ℕ_discrete}
@@ -11,13 +13,13 @@ use Rattle.signal_core.specs.declared.step.SigStep.TheVariants.{Hload, Hadd, Mor
 use Rattle.signal_core.specs.declared.view.About.{About}
 use Rattle.signal_core.specs.declared.view.Frame.{Frame}
 use Rattle.signal_core.specs.declared.view.Frame.TheVariants.{Reading, Opening, Entering, Leaving, Posting, Numbering, Telling, Prodding, Comparing, Heading, Swapping, Taking, Keeping, Reminding}
-use Rattle.signal_core.specs.Words.{worn}
+use Rattle.signal_core.specs.Words.{opened, word_count, worn}
 use Rattle.signal_core.specs.Machine.{Place, becomes, place_after, told, word_of}
 use Rattle.schedule_script.specs.declared.signals.Ask.{Ask}
 use Rattle.schedule_script.specs.declared.signals.Ask.TheVariants.{Join, Leave, Emit, Absorb}
 use Rattle.schedule_script.specs.declared.signals.Backend.{Backend}
 use Rattle.schedule_script.specs.Signals.{failing_of, lowest, step_at, still}
-use Rattle.schedule_script.specs.SignalSketch.{AskFits, BackendFits, Fits, PlaceFits, Sketch, StepFits, idle, turn, went}
+use Rattle.schedule_script.specs.SignalSketch.{AskFits, BackendFits, Fits, PlaceFits, Sketch, StepFits, idle, opening_sketch, turn, went}
 use Rattle.schedule_script.specs.SignalSketch as sketch
 use Rattle.schedule_script.proofs.KindFacts.{lowest-below}
 
@@ -104,3 +106,17 @@ word-in procs p (Pstore x) below fits = omega arith
 word-in procs p (Pload q) below fits = omega (arith, fits)
 word-in procs p (Pend q) below fits = elim fits [ inl in_range ↦ omega arith | inr own ↦ omega arith ]
 word-in procs p (Pswap begins) below fits = omega arith
+
+all-idle : (xs : List ℕ) (p : ℕ) → get_or (map (λ _. idle) xs) p idle ≡ idle
+all-idle [] p = refl
+all-idle (x ∷ xs) zero = refl
+all-idle (x ∷ xs) (suc p) = all-idle xs p
+
+pub opening-fits : (z : About) → (0 < z.procs) × (z.procs ≤ 64) → z.generation ≤ worn → Fits (opening_sketch z)
+opening-fits z some near = record {
+  procs = some;
+  generation = near;
+  words = length-map-range_with_len (λ i. cond (eqb i 0) z.procs (opened z i)) 0 (word_count z);
+  backends = length-map-range_with_len (λ _. idle) 0 z.procs;
+  each = λ p. subst (λ (b : Backend). BackendFits z.procs b) (sym (all-idle (range_with_len 0 z.procs) p)) (tt, tt);
+}

@@ -1,16 +1,18 @@
 -- What a replay keeps of a signal machine: the words, and of each backend the call that it is in, its place, its slot and the number of its last emission.
-use Rattle.std.specs.Prelude.{◌≡◌, ◌⊎◌, ◌≤◌, ◌<◌, ℕ, ◌+◌, ◌++◌, ◌==◌, nat_lt, Bool, List, [], ◌∷◌, length, slice_index, slice_index_or, slice_set, drop, codes, decimal, Option, None, Some, option_map, option_and_then, ⊤, if◌then◌else◌}
+use Rattle.std.specs.Prelude.{◌≡◌, ◌⊎◌, ◌≤◌, ◌<◌, ℕ, ◌+◌, ◌++◌, ◌==◌, nat_lt, Bool, List, [], ◌∷◌, length, slice_index, slice_index_or, slice_set, map, drop, codes, decimal, Option, None, Some, option_map, option_and_then, ⊤, if◌then◌else◌}
+use Rattle.std.specs.List.{range_with_len}
 use Rattle.signal_core.specs.declared.view.About.{About}
 use Rattle.signal_core.specs.declared.view.Frame.{Frame}
 use Rattle.signal_core.specs.declared.view.Frame.TheVariants.{Posting, Numbering, Telling, Prodding, Keeping, Reminding}
 use Rattle.signal_core.specs.declared.step.SigStep.{SigStep}
 use Rattle.signal_core.specs.declared.step.SigStep.TheVariants.{Mor, Gload, Pload, Pend}
-use Rattle.signal_core.specs.Words.{header_at, opened, word_count, worn}
+use Rattle.signal_core.specs.Words.{header_at, word_count, worn}
 use Rattle.signal_core.specs.Machine.{Place, word_of, becomes, place_after, slot_after}
 use Rattle.schedule_script.specs.declared.signals.Ask.{Ask}
 use Rattle.schedule_script.specs.declared.signals.Ask.TheVariants.{Emit}
 use Rattle.schedule_script.specs.declared.signals.Backend.{Backend}
-use Rattle.schedule_script.specs.Signals.{answer, answer_line, ask_of, emitted_after, ended, may_begin, step_at, step_line, still, word_name}
+use Rattle.schedule_script.specs.SignalScripts.{first_words}
+use Rattle.schedule_script.specs.Signals.{answer, answer_line, ask_of, changed_words, emitted_after, ended, may_begin, step_at, step_line, still}
 
 pub record Sketch : Type 0 where
   pub about : About
@@ -55,15 +57,6 @@ turn s p b a =
 abbrev pub steps : Sketch → ℕ → Option (Sketch × List ℕ)
 steps s p = if nat_lt p s.about.procs then option_map (turn s p (backend_at s p)) (backend_at s p).ask else None
 
--- the word i, which is x now, where it differs from its opening
-abbrev pub changed_word : About → ℕ → ℕ → List ℕ
-changed_word z x i = if x == opened z i then [] else word_name i ++ codes " " ++ decimal x ++ codes "\n"
-
--- the words from i on that differ from their opening
-unfoldable pub changed_words : About → List ℕ → ℕ → List ℕ
-changed_words z [] i = []
-changed_words z (x ∷ words) i = changed_word z x i ++ changed_words z words (i + 1)
-
 abbrev pub ends : Sketch → List ℕ
 ends s = codes "final\n" ++ changed_words s.about (drop 1 s.words) 1
 
@@ -105,3 +98,7 @@ StepFits procs own (Gload q begins) = (q < procs) ⊎ (q ≡ own)
 StepFits procs own (Pload q) = q < procs
 StepFits procs own (Pend q) = (q < procs) ⊎ (q ≡ own)
 StepFits procs own k = ⊤
+
+-- the opening
+abbrev pub opening_sketch : About → Sketch
+opening_sketch z = record { about = z; words = first_words z; backends = map (λ _. idle) (range_with_len 0 z.procs) }

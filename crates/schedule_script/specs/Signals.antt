@@ -10,7 +10,7 @@ use Rattle.signal_core.specs.declared.view.Frame.{Frame}
 use Rattle.signal_core.specs.declared.view.Frame.TheVariants.{Reading, Opening, Entering, Leaving, Posting, Numbering, Telling, Prodding, Comparing, Heading, Swapping, Taking, Keeping, Reminding}
 use Rattle.signal_core.specs.declared.view.About.{About}
 use Rattle.signal_core.specs.declared.view.Slot.{Slot}
-use Rattle.signal_core.specs.Words.{gone}
+use Rattle.signal_core.specs.Words.{gone, opened}
 use Rattle.signal_core.specs.Machine.{Place, word_of, becomes, place_after, slot_after, kinds_below}
 use Rattle.schedule_script.specs.declared.signals.Ask.{Ask}
 use Rattle.schedule_script.specs.declared.signals.Ask.TheVariants.{Join, Leave, Emit, Absorb}
@@ -112,6 +112,15 @@ step_line p k i x = decimal p ++ codes " " ++ kind_name k ++ codes " " ++ word_n
 abbrev pub kinds_text : List ℕ → List ℕ
 kinds_text [] = []
 kinds_text (k ∷ kinds) = codes " " ++ decimal k ++ kinds_text kinds
+
+-- the word i, which is x now, where it differs from its opening
+abbrev pub changed_word : About → ℕ → ℕ → List ℕ
+changed_word z x i = if x == opened z i then [] else word_name i ++ codes " " ++ decimal x ++ codes "\n"
+
+-- the words from i on that differ from their opening
+unfoldable pub changed_words : About → List ℕ → ℕ → List ℕ
+changed_words z [] i = []
+changed_words z (x ∷ words) i = changed_word z x i ++ changed_words z words (i + 1)
 
 -- the kinds of a mask, from the lowest
 unfoldable pub kinds_in : ℕ → List ℕ

@@ -5,6 +5,11 @@
 mod lines;
 mod machine;
 mod play;
+mod replay;
 mod signals;
 
 pub use play::ScriptFault;
+pub use replay::replay;
+
+#[cfg(test)]
+mod tests;

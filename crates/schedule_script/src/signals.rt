@@ -1,8 +1,11 @@
 //! A script on the machine of signals.
-ghost use Rattle.std.specs.Prelude.{◌≡◌, ◌≤◌, ◌<◌, ◌+◌, ◌-◌, ◌++◌, ◌^◌, ◌⊎◌, Some, OnOk};
+ghost use Rattle.std.specs.Prelude.{◌≡◌, ◌≤◌, ◌<◌, ◌+◌, ◌-◌, ◌++◌, ◌^◌, ◌⊎◌, ◌==◌, cond, map, Some, IfOk, OnOk};
+ghost use Rattle.std.specs.List.{range_with_len};
+ghost use Rattle.signal_core.specs.Words.{opened, worn};
+ghost use Rattle.schedule_script.specs.SignalScripts.{first_words};
 ghost use Rattle.signal_core.specs.declared.step.SigStep.TheVariants.{Hadd};
 ghost use Rattle.schedule_script.specs.Play.{step_limit};
-ghost use Rattle.schedule_script.specs.SignalSketch.{HeaderFits, PlaceFits, backend_at, turn, went};
+ghost use Rattle.schedule_script.specs.SignalSketch.{HeaderFits, PlaceFits, backend_at, idle, opening_sketch, turn, went};
 
 mod calls;
 mod places;
@@ -13,10 +16,10 @@ use crate::machine::Machine;
 use calls::{ask_of, may_begin};
 use places::{becomes, emitted_after, place_after, slot_after};
 use steps::step_at;
-use texts::{push, push_changed, push_turn};
+use texts::{opened, push, push_changed, push_turn};
 use proc_table::ProcNo;
 use signal_core::{About, Frame, SigStep, Slot};
-use std::alloc::AllocError;
+use std::alloc::{AllocError, Global};
 use std::marker::Model;
 
 /// A call of a script on signals.
@@ -75,7 +78,58 @@ fn went(about: About, step: &SigStep, found: u64, backend: Backend) -> Backend
     }
 }
 
+// The word at a script's opening: all backends are drawn.
+fn first_word(about: About, word: usize) -> u64
+    ensures { result ≡ cond (word == 0) about.procs (opened about word) }
+{
+    if word == 0 {
+        u64::from(about.procs)
+    } else {
+        opened(about, word)
+    }
+}
+
+fn first_words(alloc: Global, about: About) -> Result<Vec<u64>, AllocError>
+    requires { about.procs ≤ 64 }
+    ensures { IfOk result (λ v. v.items ≡ first_words about) }
+{
+    let mut words = Vec::new(alloc);
+    'words: for word in 0..4 * about.procs as usize + 2 {
+        words.push(first_word(about, word))?;
+    }
+    Ok(words)
+}
+
+fn first_backends(alloc: Global, procs: u32) -> Result<Vec<Backend>, AllocError>
+    ensures { IfOk result (λ v. v.items ≡ map (λ _. idle) (range_with_len 0 procs)) }
+{
+    let mut backends = Vec::new(alloc);
+    'backends: for backend in 0..procs {
+        backends.push(Backend {
+            ask: None,
+            place: None,
+            slot: None,
+            emitted: 0,
+        })?;
+    }
+    Ok(backends)
+}
+
 impl Signals {
+    /// A machine whose backends are all drawn, and in no call.
+    pub(crate) fn new(alloc: Global, about: About) -> Result<Signals, AllocError>
+        requires procs { (0 < about.procs) × (about.procs ≤ 64) }
+        requires generation { about.generation ≤ worn }
+        ensures opening { IfOk result (λ s. s ≡ opening_sketch about) }
+        ensures header { IfOk result (λ s. HeaderFits s 0) }
+    {
+        Ok(Signals {
+            about,
+            words: first_words(alloc, about)?,
+            backends: first_backends(alloc, about.procs)?,
+        })
+    }
+
     // A backend that is in a call makes its next step, and prints it.
     fn turn(
         &mut self,

@@ -3,8 +3,8 @@ ghost use Rattle.std.specs.Prelude.{◌≡◌, ◌<◌, ◌+◌, ◌++◌, ◌==
 ghost use Rattle.std.specs.Int.{bit_at};
 ghost use Rattle.signal_core.specs.Machine.{becomes, word_of};
 ghost use Rattle.signal_core.specs.Words.{opened};
-ghost use Rattle.schedule_script.specs.Signals.{absorb_answer, answer, answer_line, field_name, kind_name, kinds_in, kinds_text, published_by, step_line, word_name};
-ghost use Rattle.schedule_script.specs.SignalSketch.{changed_word, changed_words, told};
+ghost use Rattle.schedule_script.specs.Signals.{absorb_answer, answer, answer_line, changed_word, changed_words, field_name, kind_name, kinds_in, kinds_text, published_by, step_line, word_name};
+ghost use Rattle.schedule_script.specs.SignalSketch.{told};
 
 use super::{Ask, Backend};
 use itoa::Buffer;

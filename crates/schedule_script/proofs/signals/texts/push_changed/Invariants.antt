@@ -1,5 +1,5 @@
 use Rattle.std.proofs.Common.{◌≡◌, ◌++◌, ◌≤◌, drop, length}
-use Rattle.schedule_script.specs.SignalSketch.{changed_words}
+use Rattle.schedule_script.specs.Signals.{changed_words}
 use Rattle.schedule_script.proofs.signals.texts.push_changed.Given as goal
 
 abbrev pub invariant-words : goal.invariant-words
