@@ -5,11 +5,11 @@
 mod lines;
 mod machine;
 mod play;
-mod replay;
+mod script;
 mod signals;
 
 pub use play::ScriptFault;
-pub use replay::replay;
+pub use script::replay;
 
 #[cfg(test)]
 mod tests;

@@ -14,7 +14,7 @@ use std::alloc::Global;
 
 // What the words after `signal` open.
 fn about_of(procs: &[u8], generation: Option<&[u8]>) -> Option<About>
-    ensures about { result ≡ about_of procs.now (option_map (λ t. t.now) generation) }
+    ensures about { result ≡ about_of procs.now (option_map (λ t. t.now) generation.entry) }
     ensures procs { IfSome result (λ z. (0 < z.procs) × (z.procs ≤ 64)) }
     ensures generation { IfSome result (λ z. z.generation ≤ worn) }
 {
