@@ -2,5 +2,4 @@ pub mod WordFacts
 pub mod CompleteFacts
 pub mod WrittenFacts
 pub mod FaultlessFacts
-pub mod NumberFacts
 pub mod MakeFacts

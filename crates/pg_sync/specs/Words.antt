@@ -2,7 +2,7 @@
 use Rattle.std.specs.Prelude.{◌≡◌, ◌<◌, ◌≤◌, ℕ, Bool, ◌&&◌, not, is_some, List, [], ◌∷◌, Option, Some, None, codes, nat_eq, if◌then◌else◌}
 use Rattle.std.specs.List.{starts_with}
 use Rattle.std.specs.Str.{bytes_eq}
-use Rattle.pg_sync.specs.Numbers.{number_of}
+use Rattle.decimal_word.specs.Numbers.{number_of}
 use Rattle.pg_sync.specs.declared.words.JoinWords.{JoinWords}
 use Rattle.pg_sync.specs.declared.words.Command.{Command}
 use Rattle.pg_sync.specs.declared.words.Command.TheVariants as command

@@ -7,7 +7,6 @@ ghost use Rattle.csv_tables.specs.Streams.{gathered_of};
 mod join;
 mod line;
 mod make;
-mod numbers;
 mod run;
 mod status;
 mod words;

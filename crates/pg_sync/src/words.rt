@@ -3,7 +3,7 @@
 ghost use Rattle.std.specs.Prelude.{◌≡◌, length, map, option_map, string_bytes, IfSome};
 ghost use Rattle.pg_sync.specs.Words.{HasPlan, HasRows, command_of, is_input, is_join, make_of, task_in, workers_of};
 
-use crate::numbers::number_of;
+use decimal_word::number_of;
 use row_model::Plan;
 
 /// The words of a join: the names of its inputs and of their keys, and how it is to run.
@@ -29,7 +29,10 @@ pub enum Command<'w> {
 fn workers_of(word: &str) -> Option<u32>
     ensures { result ≡ workers_of word.now }
 {
-    number_of(word, 1, 1)
+    match number_of(word.as_bytes(), 1, 1) {
+        Some(workers) => Some(workers as u32),
+        None => None,
+    }
 }
 
 // Whether a word may name an input: it isn't empty and is no option.
@@ -101,18 +104,18 @@ fn make_of<'w>(verb: &str, rows: &str, start: &str, workers: &str) -> Option<Com
     if verb != "make" {
         return None;
     }
-    let Some(rows) = number_of(rows, 1, 65_536) else {
+    let Some(rows) = number_of(rows.as_bytes(), 1, 65_536) else {
         return None;
     };
-    let Some(start) = number_of(start, 0, u32::MAX) else {
+    let Some(start) = number_of(start.as_bytes(), 0, 4_294_967_295) else {
         return None;
     };
     let Some(workers) = workers_of(workers) else {
         return None;
     };
     Some(Command::Make {
-        rows,
-        start,
+        rows: rows as u32,
+        start: start as u32,
         workers,
     })
 }

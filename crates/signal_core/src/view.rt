@@ -1,5 +1,5 @@
-//! What a seat knows. Values of these types stand in contracts alone: the program makes none but
-//! `About`.
+//! What a seat knows. In a table values of these types stand in contracts alone, but for `About`; a
+//! replay keeps places and slots of its own.
 
 use crate::step::SigStep;
 use std::collections::LinkedList;
@@ -12,6 +12,7 @@ pub struct About {
 }
 
 /// What is still to be done of a call. No call of this machine stands inside another.
+#[derive(Clone, Copy)]
 pub enum Frame {
     /// Joins: the own mask is clear, and it will read the header.
     Reading,
@@ -65,6 +66,7 @@ pub struct Emission {
 
 /// What a seat that is joined knows of its slot: the generation with which it joined, and the one
 /// that it has published.
+#[derive(Clone, Copy)]
 pub struct Slot {
     pub joined: u64,
     pub published: u64,

@@ -6,7 +6,7 @@ use Rattle.std.specs.Char.{is_ascii_digit}
 use Rattle.std.proofs.lemmas.Bool.{cases_Bool, le-leb, lt-leb, and_right, ne_eqb}
 use Rattle.std.proofs.lemmas.List.{take_more, take-append-drop}
 use Rattle.std.proofs.lemmas.List.Sums.{fold-append}
-use Rattle.pg_sync.specs.Numbers.{add_digit, is_decimal, number_of, value_of}
+use Rattle.decimal_word.specs.Numbers.{add_digit, is_decimal, number_of, value_of}
 
 pub is_decimal-digits : (word : List ℕ) (empty digits : Bool) → empty ≡ eqb (length word) 0 → empty ≡ false → (slice_index word 0 ≡ 48 → ⊥)
     → digits ≡ list_all is_ascii_digit word → digits ≡ is_decimal word

@@ -1,6 +1,6 @@
 use Rattle.std.proofs.Common.{◌≡◌, ◌≤◌, take}
-use Rattle.pg_sync.specs.Numbers.{value_of}
-use Rattle.pg_sync.proofs.numbers.value_within.Given as goal
+use Rattle.decimal_word.specs.Numbers.{value_of}
+use Rattle.decimal_word.proofs.value_within.Given as goal
 
 abbrev pub invariant-digits : goal.invariant-digits
 invariant-digits l = record {

@@ -1,9 +1,10 @@
-//! Numbers as words.
+//! Numbers as decimal words.
+#![tactic(auto)]
 
 ghost use Rattle.std.specs.Prelude.{◌≡◌, ◌≤◌, ◌<◌, IfSome, IfNone};
 ghost use Rattle.std.specs.List.{list_all};
 ghost use Rattle.std.specs.Char.{is_ascii_digit};
-ghost use Rattle.pg_sync.specs.Numbers.{is_decimal, number_of, value_of};
+ghost use Rattle.decimal_word.specs.Numbers.{add_digit, is_decimal, number_of, value_of};
 
 // Whether all bytes are decimal digits.
 fn all_digits(word: &[u8]) -> bool
@@ -25,32 +26,44 @@ fn is_decimal(word: &[u8]) -> bool
     all_digits(word)
 }
 
+// A value with a digit more at its end, None where that is above `high`.
+fn add_digit(value: u64, digit: u8, high: u64) -> Option<u64>
+    ensures value { IfSome result (λ more. more ≡ add_digit value digit) }
+    ensures within { IfSome result (λ more. more ≤ high) }
+    ensures above { IfNone result (high < add_digit value digit) }
+{
+    let more = u128::from(value) * 10 + u128::from(digit.saturating_sub(b'0'));
+    if more > u128::from(high) {
+        return None;
+    }
+    Some(more as u64)
+}
+
 // The value of decimal digits, None where it is above `high`.
-fn value_within(digits: &[u8], high: u32) -> Option<u32>
+fn value_within(digits: &[u8], high: u64) -> Option<u64>
     ensures value { IfSome result (λ value. value ≡ value_of digits.now) }
     ensures within { IfSome result (λ value. value ≤ high) }
     ensures above { IfNone result (high < value_of digits.now) }
 {
-    let mut value = 0u64;
+    let mut value = 0;
     'digits: for digit in digits {
-        value = value * 10 + u64::from(digit.saturating_sub(b'0'));
-        if value > u64::from(high) {
+        let Some(more) = add_digit(value, *digit, high) else {
             return None;
-        }
+        };
+        value = more;
     }
-    Some(value as u32)
+    Some(value)
 }
 
 /// The number that a word is, None exactly where it is none from `low` to `high`.
-pub fn number_of(word: &str, low: u32, high: u32) -> Option<u32>
+pub fn number_of(word: &[u8], low: u64, high: u64) -> Option<u64>
     ensures number { result ≡ number_of low high word.now }
     ensures range { IfSome result (λ number. (low ≤ number) × (number ≤ high)) }
 {
-    let digits = word.as_bytes();
-    if !is_decimal(digits) {
+    if !is_decimal(word) {
         return None;
     }
-    let Some(value) = value_within(digits, high) else {
+    let Some(value) = value_within(word, high) else {
         return None;
     };
     if value < low {

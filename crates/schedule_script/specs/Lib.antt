@@ -1,0 +1,9 @@
+pub mod Lines
+pub mod LineViews
+pub mod Play
+pub mod Moments
+pub mod Signals
+pub mod SignalScripts
+pub mod SignalSketch
+pub mod ScriptText
+pub mod Replays
