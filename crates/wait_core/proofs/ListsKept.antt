@@ -71,7 +71,7 @@ module _ {C : Type 0} (z : Size) (next : ℕ) (words : List ℕ) (homes : Homes)
     -- a step of the machine
     pub lists_step : (o : ℕ) → v.own ≡ Some o → o < z.procs → (k : WaitStep) → Permits z k (Some o) v.target v.place → Fits z.cvs v.target v.place → get_or words (word_of z o k) 0 ≤ 1
         → let n = get_or words (word_of z o k) 0 in let found = home_in homes (slot_number z k) in
-          ListsStand z (set words (word_of z o k) (becomes k n)) (homes_after homes (carried z k o v.place) (act_of z k n found)) (map stance_of (set views id (next_with z k v n found)))
+        ListsStand z (set words (word_of z o k) (becomes k n)) (homes_after homes (carried z k o v.place) (act_of z k n found)) (map stance_of (set views id (next_with z k v n found)))
     lists_step o own below k ok fits few =
         let n : ℕ = get_or words (word_of z o k) 0 in let found : Kept = home_in homes (slot_number z k) in let w : WaitView C = next_with z k v n found in
         let after : Homes = homes_after homes (carried z k o v.place) (act_of z k n found) in

@@ -85,8 +85,8 @@ module _ (homes : Homes) (seats : List Stance) (id : ℕ) (v w : Stance) (at : g
   pub times_out : (c : ℕ) (k : Kept) → get_elem? homes c ≡ maybe.some (maybe.some k) → v.hand ≡ None → w.hand ≡ in_hand c k.list.items → times_on p x (set homes c maybe.none) (set seats id w) ≡ times_on p x homes seats
   times_out c k home free has = let sum = total_set (listed_by p x) seats id v w at in let had : hand_times p x v.hand ≡ 0 = ap (hand_times p x) free in dite (ℕ_discrete x c)
       (λ is. let was : home_times p x homes ≡ times p k.list.items = ap (λ (j : ℕ). home_times p j homes) is ∙ ap (λ o. times p (home_of o).list.items) home in
-        let now : home_times p x (set homes c maybe.none) ≡ 0 = ap (λ (j : ℕ). home_times p j (set homes c maybe.none)) is ∙ ap (λ o. times p (home_of o).list.items) (set_here homes c maybe.none (at_inside homes c (maybe.some k) home)) in
-        let mine : hand_times p x w.hand ≡ times p k.list.items = ap (λ (j : ℕ). hand_times p j w.hand) is ∙ hand_here p c w.hand k.list.items has in omega arith)
+      let now : home_times p x (set homes c maybe.none) ≡ 0 = ap (λ (j : ℕ). home_times p j (set homes c maybe.none)) is ∙ ap (λ o. times p (home_of o).list.items) (set_here homes c maybe.none (at_inside homes c (maybe.some k) home)) in
+      let mine : hand_times p x w.hand ≡ times p k.list.items = ap (λ (j : ℕ). hand_times p j w.hand) is ∙ hand_here p c w.hand k.list.items has in omega arith)
       (λ ne. let mine = hand_else p x c w.hand k.list.items has ne in let now : home_times p x (set homes c maybe.none) ≡ home_times p x homes = ap (λ o. times p (home_of o).list.items) (set_else homes c x maybe.none ne) in omega arith)
 
   -- the list in hand goes home, as another

@@ -113,7 +113,7 @@ module _ (z : Size) (words : List ℕ) (homes : Homes) (seats : List Stance) (wi
     sent_here p = let moved = times_sent homes seats id v w at p c c found k out has free refl in let before = times_held homes seats id c v found at (one_hand z words homes seats wide flags hands c inside) out has p in
         let h = was p c inside in dite (ℕ_discrete o p)
         (λ (is : o ≡ p). let a = mine_before p c is in let b = mine_after p c is in
-          let m : times p found ≤ is_just c v.belongs → times p k.list.items ≤ is_just c w.belongs = subst (λ (q : ℕ). times q found ≤ is_just c v.belongs → times q k.list.items ≤ is_just c w.belongs) is facts.mine in let n = m (omega arith) in omega arith)
+        let m : times p found ≤ is_just c v.belongs → times p k.list.items ≤ is_just c w.belongs = subst (λ (q : ℕ). times q found ≤ is_just c v.belongs → times q k.list.items ≤ is_just c w.belongs) is facts.mine in let n = m (omega arith) in omega arith)
         (λ (ne : o ≢ p). let a = else_after seats alone id o v w at own facts.own belongs_of c p ne in let l = facts.others p ne in omega arith)
 
     sent_apart : (p y : ℕ) → y < z.cvs + z.bars → y ≢ c → ListedWhereItBelongs p y (set homes c (maybe.some k)) (set seats id w)

@@ -292,7 +292,7 @@ module _ (z : Size) (words : List ℕ) (homes : Homes) (o : ℕ) (below : o < z.
     -- a spin word of the table is taken
     taken_turned : (x : Spot) (begins : Option Call) (j : Job) (p q : Place) → IsSpot z x → spot_of j ≡ x → found_at (spin_at z (slot_of z x)) ≤ 1 → stance (Some o) t h (Taking j ∷ q) ≡ stance (Some o) t h p
         → let n = found_at (spin_at z (slot_of z x)) in let found = home_in homes (slot_of z x) in
-          Turn z words homes (homes_after homes (carried z (Take x begins) o p) (act_of z (Take x begins) n found)) (spin_at z (slot_of z x)) 1 (stance (Some o) t h p) (stance (Some o) t h (taken (eqb n 0) found (Taking j ∷ q)))
+        Turn z words homes (homes_after homes (carried z (Take x begins) o p) (act_of z (Take x begins) n found)) (spin_at z (slot_of z x)) 1 (stance (Some o) t h p) (stance (Some o) t h (taken (eqb n 0) found (Taking j ∷ q)))
     taken_turned x begins j p q inside is few same = subst (λ (u : Stance). Turn z words homes (after_take x) (spin_at z (slot_of z x)) 1 u (stance (Some o) t h (taken (eqb (found_at (spin_at z (slot_of z x))) 0) (home_in homes (slot_of z x)) (Taking j ∷ q)))) same (at_spot x is inside few)
       where
         after_take : Spot → Homes
@@ -343,7 +343,7 @@ module _ (z : Size) (words : List ℕ) (homes : Homes) (o : ℕ) (below : o < z.
   -- the same of a view
   pub view_turns : {C : Type 0} (v : WaitView C) (k : WaitStep) → AtHome → v.own ≡ Some o → Permits z k (Some o) v.target v.place → Fits z.cvs v.target v.place → found_at (word_of z o k) ≤ 1
       → Turn z words homes (homes_after homes (carried z k o v.place) (act_of z k (found_at (word_of z o k)) (home_in homes (slot_number z k)))) (word_of z o k) (becomes k (found_at (word_of z o k)))
-        (stance_of v) (stance_of (next_with z k v (found_at (word_of z o k)) (home_in homes (slot_number z k))))
+      (stance_of v) (stance_of (next_with z k v (found_at (word_of z o k)) (home_in homes (slot_number z k))))
   view_turns v k home own ok fits few = subst (λ (x : Option ℕ). Turn z words homes (homes_after homes (carried z k o v.place) (act_of z k (found_at (word_of z o k)) (home_in homes (slot_number z k)))) (word_of z o k) (becomes k (found_at (word_of z o k)))
       (stance x v.target v.heeds v.place) (stance x (target_then k v.target) (heeds_then k (number_of x) v.place v.heeds) (place_then z k (found_at (word_of z o k)) (home_in homes (slot_number z k)) record { own = number_of x; target = v.target; place = v.place })))
       (sym own) (turning home v.target v.heeds k v.place ok fits few)
