@@ -18,7 +18,7 @@ use Rattle.wait_core.specs.Words.{slot_of, spin_at}
 use Rattle.wait_core.specs.Lists.{is_listed, AllBelow}
 use Rattle.wait_core.specs.Machine.{Place, home_of, home_in, slot_number, word_of, act_of, Permits}
 use Rattle.wait_core.specs.Seating.{numbers_of}
-use Rattle.wait_core.specs.Stances.{Stance, Homes, stance_of, both_are, belongs_to, listed_by}
+use Rattle.wait_core.specs.Stances.{Stance, Homes, stance_of, both_are, belongs_to}
 use Rattle.wait_core.specs.ListsStand.{ListsStand}
 use Rattle.wait_core.specs.Told.{TellsList, Tells}
 use Rattle.wait_core.proofs.Lists.{not_listed, fits_below, room_below, all_below}

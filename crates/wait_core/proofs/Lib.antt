@@ -23,4 +23,6 @@ pub mod Openings
 pub mod Asks
 pub mod SeatLemmas
 pub mod Runs
+pub mod Sentinel
+pub mod Broadcasting
 pub mod Sleepers

@@ -112,3 +112,39 @@ before_last p q (x ∷ xs) there = by_head (eqb x p) there (λ later. before_las
     by_head : (b : Bool) → 1 ≤ cond b 1 0 + times p xs → (1 ≤ times p xs → 1 ≤ precedes p q (xs ++ q ∷ [])) → 1 ≤ cond b (times q (xs ++ q ∷ [])) (precedes p q (xs ++ q ∷ []))
     by_head true there later = let one = times_joined q xs in omega arith
     by_head false there later = later (omega arith)
+
+pub behind_joined : (p q r : ℕ) (xs : List ℕ) → precedes p q xs ≤ precedes p q (xs ++ r ∷ [])
+behind_joined p q r xs = behind p q xs (r ∷ [])
+
+-- nobody else who leaves the list changes it
+pub precedes_without : (p q r : ℕ) (xs : List ℕ) → p ≢ r → q ≢ r → precedes p q (without r xs) ≡ precedes p q xs
+precedes_without p q r [] np nq = refl
+precedes_without p q r (x ∷ xs) np nq = by_head (eqb x r) refl (precedes_without p q r xs np nq)
+  where
+    by_own : (b : Bool) → precedes p q (without r xs) ≡ precedes p q xs → cond b (times q (without r xs)) (precedes p q (without r xs)) ≡ cond b (times q xs) (precedes p q xs)
+    by_own true rest = times_without q r xs nq
+    by_own false rest = rest
+
+    by_head : (b : Bool) → eqb x r ≡ b → precedes p q (without r xs) ≡ precedes p q xs → precedes p q (cond b (without r xs) (x ∷ without r xs)) ≡ cond (eqb x p) (times q xs) (precedes p q xs)
+    by_head true e rest = rest ∙ sym (ap (λ (b : Bool). cond b (times q xs) (precedes p q xs)) (ne_eqb x p (λ h. np (sym h ∙ eqb-true x r e))))
+    by_head false e rest = by_own (eqb x p) rest
+
+pub precedes_popped : (p q x : ℕ) (xs : List ℕ) → x ≢ p → precedes p q (x ∷ xs) ≡ precedes p q xs
+precedes_popped p q x xs ne = ap (λ (b : Bool). cond b (times q xs) (precedes p q xs)) (ne_eqb x p ne)
+
+-- who stands before another is on the list, and so is the other
+pub stands_there : (p q : ℕ) (xs : List ℕ) → 1 ≤ precedes p q xs → 1 ≤ times p xs
+stands_there p q [] some = absurd (omega arith)
+stands_there p q (x ∷ xs) some = by_head (eqb x p) some (λ h. stands_there p q xs h)
+  where
+    by_head : (b : Bool) → 1 ≤ cond b (times q xs) (precedes p q xs) → (1 ≤ precedes p q xs → 1 ≤ times p xs) → 1 ≤ cond b 1 0 + times p xs
+    by_head true some rest = omega arith
+    by_head false some rest = let there = rest some in omega arith
+
+pub stands_behind : (p q : ℕ) (xs : List ℕ) → 1 ≤ precedes p q xs → 1 ≤ times q xs
+stands_behind p q [] some = absurd (omega arith)
+stands_behind p q (x ∷ xs) some = by_head (eqb x p) some (λ h. stands_behind p q xs h)
+  where
+    by_head : (b : Bool) → 1 ≤ cond b (times q xs) (precedes p q xs) → (1 ≤ precedes p q xs → 1 ≤ times q xs) → 1 ≤ cond (eqb x q) 1 0 + times q xs
+    by_head true some rest = omega arith
+    by_head false some rest = let there = rest some in omega arith

@@ -18,7 +18,7 @@ use Rattle.wait_core.specs.Machine.{Place, home_of, home_in, slot_number, word_o
 use Rattle.wait_core.specs.Seating.{numbers_of}
 use Rattle.wait_core.specs.Fits.{Fits}
 use Rattle.wait_core.specs.Slots.{AllAsOpened, OpeningSlots}
-use Rattle.wait_core.specs.Stances.{Stance, Homes, stance_of, heeds_at, home_times}
+use Rattle.wait_core.specs.Stances.{Stance, Homes, stance_of, heeds_at, home_amount}
 use Rattle.wait_core.specs.ListsStand.{ListsStand}
 use Rattle.wait_core.specs.Rule.{Flags}
 use Rattle.seat_roster.specs.Roster.{times}
@@ -98,7 +98,7 @@ module _ {C : Type 0} (z : Size) (next : ℕ) (words : List ℕ) (homes : Homes)
         (spent z words homes (map stance_of views) stand other w.own (at_map stance_of views other w at_other ∙ ap maybe.some (idle_stance w still free)))
 
 -- THE OPENING. Nobody is on a list
-no_one : (phase p : ℕ) (slots : List Kept) (x : ℕ) → AllAsOpened phase slots → home_times p x (map maybe.some slots) ≡ 0
+no_one : (phase p : ℕ) (slots : List Kept) (x : ℕ) → AllAsOpened phase slots → home_amount (times p) x (map maybe.some slots) ≡ 0
 no_one phase p [] x all = refl
 no_one phase p (k ∷ slots) zero all = ap (times p) all.0.nobody
 no_one phase p (k ∷ slots) (suc x) all = no_one phase p slots x all.1

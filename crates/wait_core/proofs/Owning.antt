@@ -13,7 +13,7 @@ use Rattle.wait_core.specs.declared.view.Kept.{Kept}
 use Rattle.wait_core.specs.declared.view.WaitView.{WaitView}
 use Rattle.wait_core.specs.Machine.{home_of}
 use Rattle.wait_core.specs.Seating.{numbers_of}
-use Rattle.wait_core.specs.Stances.{Hand, Stance, Homes, stance_of, is_just, has_slot, has_list, hand_times, listed_by, home_times, times_on, both_are, belongs_to, heeds_for, has_popped}
+use Rattle.wait_core.specs.Stances.{Hand, Stance, Homes, stance_of, is_just, has_slot, has_list, hand_amount, amount_by, home_amount, amount_on, both_are, belongs_to, heeds_for, has_popped}
 use Rattle.wait_core.proofs.Turns.{in_hand, idle}
 
 -- 1 where the seat has the number p
@@ -62,52 +62,52 @@ slot_here c hand list is = ap (has_slot c) is ∙ ap (λ (b : Bool). cond {A = �
 pub slot_else : (x c : ℕ) (hand : Option Hand) (list : List ℕ) → hand ≡ in_hand c list → x ≢ c → has_slot x hand ≡ 0
 slot_else x c hand list is ne = ap (has_slot x) is ∙ ap (λ (b : Bool). cond {A = ℕ} b 1 0) (ne_eqb c x (λ e. ne (sym e)))
 
-pub hand_here : (p c : ℕ) (hand : Option Hand) (list : List ℕ) → hand ≡ in_hand c list → hand_times p c hand ≡ times p list
-hand_here p c hand list is = ap (hand_times p c) is ∙ ap (λ (b : Bool). cond {A = ℕ} b (times p list) 0) (eq-eqb c c refl)
+hand_here : (f : List ℕ → ℕ) (c : ℕ) (hand : Option Hand) (list : List ℕ) → hand ≡ in_hand c list → hand_amount f c hand ≡ f list
+hand_here f c hand list is = ap (hand_amount f c) is ∙ ap (λ (b : Bool). cond {A = ℕ} b (f list) 0) (eq-eqb c c refl)
 
-pub hand_else : (p x c : ℕ) (hand : Option Hand) (list : List ℕ) → hand ≡ in_hand c list → x ≢ c → hand_times p x hand ≡ 0
-hand_else p x c hand list is ne = ap (hand_times p x) is ∙ ap (λ (b : Bool). cond {A = ℕ} b (times p list) 0) (ne_eqb c x (λ e. ne (sym e)))
+hand_else : (f : List ℕ → ℕ) (x c : ℕ) (hand : Option Hand) (list : List ℕ) → hand ≡ in_hand c list → x ≢ c → hand_amount f x hand ≡ 0
+hand_else f x c hand list is ne = ap (hand_amount f x) is ∙ ap (λ (b : Bool). cond {A = ℕ} b (f list) 0) (ne_eqb c x (λ e. ne (sym e)))
 
-hand_empty : (p x : ℕ) (hand : Option Hand) → has_slot x hand ≡ 0 → hand_times p x hand ≡ 0
-hand_empty p x None none = refl
-hand_empty p x (Some h) none = by_test (eqb h.slot x) none
+hand_empty : (f : List ℕ → ℕ) (x : ℕ) (hand : Option Hand) → has_slot x hand ≡ 0 → hand_amount f x hand ≡ 0
+hand_empty f x None none = refl
+hand_empty f x (Some h) none = by_test (eqb h.slot x) none
   where
-    by_test : (b : Bool) → cond {A = ℕ} b 1 0 ≡ 0 → cond {A = ℕ} b (times p h.list) 0 ≡ 0
+    by_test : (b : Bool) → cond {A = ℕ} b 1 0 ≡ 0 → cond {A = ℕ} b (f h.list) 0 ≡ 0
     by_test true e = absurd (omega arith)
     by_test false e = refl
 
--- LISTS. How often p is listed, once a seat or a home has changed
-module _ (homes : Homes) (seats : List Stance) (id : ℕ) (v w : Stance) (at : get_elem? seats id ≡ maybe.some v) (p x : ℕ) where
-  pub times_same : w.hand ≡ v.hand → times_on p x homes (set seats id w) ≡ times_on p x homes seats
-  times_same same = let sum = total_set (listed_by p x) seats id v w at in let hand = ap (hand_times p x) same in omega arith
+-- LISTS. What f counts of a list, once a seat or a home has changed
+module _ (homes : Homes) (seats : List Stance) (id : ℕ) (v w : Stance) (at : get_elem? seats id ≡ maybe.some v) (f : List ℕ → ℕ) (none : f [] ≡ 0) (x : ℕ) where
+  pub amount_same : w.hand ≡ v.hand → amount_on f x homes (set seats id w) ≡ amount_on f x homes seats
+  amount_same same = let sum = total_set (amount_by f x) seats id v w at in let hand = ap (hand_amount f x) same in omega arith
 
   -- the list leaves its slot, and is in hand
-  pub times_out : (c : ℕ) (k : Kept) → get_elem? homes c ≡ maybe.some (maybe.some k) → v.hand ≡ None → w.hand ≡ in_hand c k.list.items → times_on p x (set homes c maybe.none) (set seats id w) ≡ times_on p x homes seats
-  times_out c k home free has = let sum = total_set (listed_by p x) seats id v w at in let had : hand_times p x v.hand ≡ 0 = ap (hand_times p x) free in dite (ℕ_discrete x c)
-      (λ is. let was : home_times p x homes ≡ times p k.list.items = ap (λ (j : ℕ). home_times p j homes) is ∙ ap (λ o. times p (home_of o).list.items) home in
-      let now : home_times p x (set homes c maybe.none) ≡ 0 = ap (λ (j : ℕ). home_times p j (set homes c maybe.none)) is ∙ ap (λ o. times p (home_of o).list.items) (set_here homes c maybe.none (at_inside homes c (maybe.some k) home)) in
-      let mine : hand_times p x w.hand ≡ times p k.list.items = ap (λ (j : ℕ). hand_times p j w.hand) is ∙ hand_here p c w.hand k.list.items has in omega arith)
-      (λ ne. let mine = hand_else p x c w.hand k.list.items has ne in let now : home_times p x (set homes c maybe.none) ≡ home_times p x homes = ap (λ o. times p (home_of o).list.items) (set_else homes c x maybe.none ne) in omega arith)
+  pub amount_out : (c : ℕ) (k : Kept) → get_elem? homes c ≡ maybe.some (maybe.some k) → v.hand ≡ None → w.hand ≡ in_hand c k.list.items → amount_on f x (set homes c maybe.none) (set seats id w) ≡ amount_on f x homes seats
+  amount_out c k home free has = let sum = total_set (amount_by f x) seats id v w at in let had : hand_amount f x v.hand ≡ 0 = ap (hand_amount f x) free in dite (ℕ_discrete x c)
+      (λ is. let was : home_amount f x homes ≡ f k.list.items = ap (λ (j : ℕ). home_amount f j homes) is ∙ ap (λ o. f (home_of o).list.items) home in
+        let now : home_amount f x (set homes c maybe.none) ≡ 0 = ap (λ (j : ℕ). home_amount f j (set homes c maybe.none)) is ∙ ap (λ o. f (home_of o).list.items) (set_here homes c maybe.none (at_inside homes c (maybe.some k) home)) ∙ none in
+        let mine : hand_amount f x w.hand ≡ f k.list.items = ap (λ (j : ℕ). hand_amount f j w.hand) is ∙ hand_here f c w.hand k.list.items has in omega arith)
+      (λ ne. let mine = hand_else f x c w.hand k.list.items has ne in let now : home_amount f x (set homes c maybe.none) ≡ home_amount f x homes = ap (λ o. f (home_of o).list.items) (set_else homes c x maybe.none ne) in omega arith)
 
   -- the list in hand goes home, as another
-  pub times_sent : (c : ℕ) (found : List ℕ) (k : Kept) → get_elem? homes c ≡ maybe.some maybe.none → v.hand ≡ in_hand c found → w.hand ≡ None → x ≡ c
-      → times_on p x (set homes c (maybe.some k)) (set seats id w) + times p found ≡ times_on p x homes seats + times p k.list.items
-  times_sent c found k out has free is = let sum = total_set (listed_by p x) seats id v w at in let mine : hand_times p x w.hand ≡ 0 = ap (hand_times p x) free in
-      let was : home_times p x homes ≡ 0 = ap (λ (j : ℕ). home_times p j homes) is ∙ ap (λ o. times p (home_of o).list.items) out in
-      let now : home_times p x (set homes c (maybe.some k)) ≡ times p k.list.items = ap (λ (j : ℕ). home_times p j (set homes c (maybe.some k))) is ∙ ap (λ o. times p (home_of o).list.items) (set_here homes c (maybe.some k) (at_inside homes c maybe.none out)) in
-      let had : hand_times p x v.hand ≡ times p found = ap (λ (j : ℕ). hand_times p j v.hand) is ∙ hand_here p c v.hand found has in omega arith
+  pub amount_sent : (c : ℕ) (found : List ℕ) (k : Kept) → get_elem? homes c ≡ maybe.some maybe.none → v.hand ≡ in_hand c found → w.hand ≡ None → x ≡ c
+      → amount_on f x (set homes c (maybe.some k)) (set seats id w) + f found ≡ amount_on f x homes seats + f k.list.items
+  amount_sent c found k out has free is = let sum = total_set (amount_by f x) seats id v w at in let mine : hand_amount f x w.hand ≡ 0 = ap (hand_amount f x) free in
+      let was : home_amount f x homes ≡ 0 = ap (λ (j : ℕ). home_amount f j homes) is ∙ ap (λ o. f (home_of o).list.items) out ∙ none in
+      let now : home_amount f x (set homes c (maybe.some k)) ≡ f k.list.items = ap (λ (j : ℕ). home_amount f j (set homes c (maybe.some k))) is ∙ ap (λ o. f (home_of o).list.items) (set_here homes c (maybe.some k) (at_inside homes c maybe.none out)) in
+      let had : hand_amount f x v.hand ≡ f found = ap (λ (j : ℕ). hand_amount f j v.hand) is ∙ hand_here f c v.hand found has in omega arith
 
-  pub times_apart : (c : ℕ) (found : List ℕ) (o : maybe.Option Kept) → v.hand ≡ in_hand c found → w.hand ≡ None → x ≢ c → times_on p x (set homes c o) (set seats id w) ≡ times_on p x homes seats
-  times_apart c found o has free ne = let sum = total_set (listed_by p x) seats id v w at in let had = hand_else p x c v.hand found has ne in let mine : hand_times p x w.hand ≡ 0 = ap (hand_times p x) free in
-      let now : home_times p x (set homes c o) ≡ home_times p x homes = ap (λ h. times p (home_of h).list.items) (set_else homes c x o ne) in omega arith
+  pub amount_apart : (c : ℕ) (found : List ℕ) (o : maybe.Option Kept) → v.hand ≡ in_hand c found → w.hand ≡ None → x ≢ c → amount_on f x (set homes c o) (set seats id w) ≡ amount_on f x homes seats
+  amount_apart c found o has free ne = let sum = total_set (amount_by f x) seats id v w at in let had = hand_else f x c v.hand found has ne in let mine : hand_amount f x w.hand ≡ 0 = ap (hand_amount f x) free in
+      let now : home_amount f x (set homes c o) ≡ home_amount f x homes = ap (λ h. f (home_of h).list.items) (set_else homes c x o ne) in omega arith
 
 -- where one seat alone has the list in hand, it is the one that counts
-pub times_held : (homes : Homes) (seats : List Stance) (id c : ℕ) (v : Stance) (found : List ℕ) → get_elem? seats id ≡ maybe.some v → total (has_list c) seats ≤ 1 → get_elem? homes c ≡ maybe.some maybe.none → v.hand ≡ in_hand c found
-    → (p : ℕ) → times_on p c homes seats ≡ times p found
-times_held homes seats id c v found at one out has p =
-    let home : home_times p c homes ≡ 0 = ap (λ o. times p (home_of o).list.items) out in
-    let only = total_only (listed_by p c) (has_list c) seats id v at one (slot_here c v.hand found has) (λ j u e none. hand_empty p c u.hand none) in
-    let mine = hand_here p c v.hand found has in omega arith
+pub amount_held : (f : List ℕ → ℕ) → f [] ≡ 0 → (homes : Homes) (seats : List Stance) (id c : ℕ) (v : Stance) (found : List ℕ) → get_elem? seats id ≡ maybe.some v → total (has_list c) seats ≤ 1 → get_elem? homes c ≡ maybe.some maybe.none → v.hand ≡ in_hand c found
+    → amount_on f c homes seats ≡ f found
+amount_held f none homes seats id c v found at one out has =
+    let home : home_amount f c homes ≡ 0 = ap (λ o. f (home_of o).list.items) out ∙ none in
+    let only = total_only (amount_by f c) (has_list c) seats id v at one (slot_here c v.hand found has) (λ j u e no. hand_empty f c u.hand no) in
+    let mine = hand_here f c v.hand found has in omega arith
 
 -- NUMBERS. No two seats have one
 abbrev pub Alone : List Stance → Type 0

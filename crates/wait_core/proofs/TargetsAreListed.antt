@@ -11,11 +11,11 @@ use Rattle.seat_roster.specs.Roster.{times}
 use Rattle.seat_roster.proofs.Totals.{total_set, total_snoc}
 use Rattle.wait_core.specs.Words.{client_base}
 use Rattle.wait_core.specs.Lists.{without}
-use Rattle.wait_core.specs.Stances.{Stance, Homes, is_just, both_are, listed_by, times_on, belongs_to}
+use Rattle.wait_core.specs.Stances.{Stance, Homes, is_just, both_are, amount_by, times_on, belongs_to}
 use Rattle.wait_core.specs.TargetsAreListed.{ListedWhereItBelongs, TargetsAreListed}
 use Rattle.wait_core.proofs.Lists.{head_here, head_else, times_last, times_joined, times_without, times_gone, times_left}
 use Rattle.wait_core.proofs.Turns.{in_hand, StillBelongs, Sends, returns, stays_listed, joins, leaves, pops, signs, ends, Turn, stays, reaches, resets, takes, frees, idle}
-use Rattle.wait_core.proofs.Owning.{just_here, just_else, just_most, both_here, both_none, times_same, times_out, times_sent, times_apart, times_held, Alone, own_counts, own_after, else_after}
+use Rattle.wait_core.proofs.Owning.{just_here, just_else, just_most, both_here, both_none, amount_same, amount_out, amount_sent, amount_apart, amount_held, Alone, own_counts, own_after, else_after}
 use Rattle.wait_core.proofs.SpinInOneHand.{Hands, SpinsAreFlags, one_hand, home_out, sends_hand}
 
 abbrev belongs_of : Stance → Option ℕ
@@ -89,12 +89,12 @@ module _ (z : Size) (words : List ℕ) (homes : Homes) (seats : List Stance) (wi
   -- no list moves, and the seat belongs where it did
   same : after ≡ homes → w.hand ≡ v.hand → w.own ≡ v.own → w.belongs ≡ v.belongs → TargetsAreListed (z.cvs + z.bars) after (set seats id w)
   same stay hand own still p y below = subst (λ (o : Homes). ListedWhereItBelongs p y o (set seats id w)) (sym stay)
-      (let times = times_same homes seats id v w at p y hand in let sum = total_set (belongs_to p y) seats id v w at in let mine : belongs_to p y w ≡ belongs_to p y v = λ j. both_are p y (own j) (still j) in let h = was p y below in omega arith)
+      (let times = amount_same homes seats id v w at (times p) refl y hand in let sum = total_set (belongs_to p y) seats id v w at in let mine : belongs_to p y w ≡ belongs_to p y v = λ j. both_are p y (own j) (still j) in let h = was p y below in omega arith)
 
   -- that of c leaves its slot
   taken : (c : ℕ) (k : Kept) → get_elem? homes c ≡ maybe.some (maybe.some k) → after ≡ set homes c maybe.none → v.hand ≡ None → w ≡ record v { hand = in_hand c k.list.items } → TargetsAreListed (z.cvs + z.bars) after (set seats id w)
   taken c k home goes free is p y below = subst (λ (o : Homes). ListedWhereItBelongs p y o (set seats id w)) (sym goes)
-      (let times = times_out homes seats id v w at p y c k home free (ap (λ (u : Stance). u.hand) is) in let sum = total_set (belongs_to p y) seats id v w at in
+      (let times = amount_out homes seats id v w at (times p) refl y c k home free (ap (λ (u : Stance). u.hand) is) in let sum = total_set (belongs_to p y) seats id v w at in
       let mine : belongs_to p y w ≡ belongs_to p y v = λ j. both_are p y (own_of (is j)) (belongs_of (is j)) in let h = was p y below in omega arith)
 
   -- it goes home
@@ -110,14 +110,14 @@ module _ (z : Size) (words : List ℕ) (homes : Homes) (seats : List Stance) (wi
 
     -- of the list itself
     sent_here : (p : ℕ) → ListedWhereItBelongs p c (set homes c (maybe.some k)) (set seats id w)
-    sent_here p = let moved = times_sent homes seats id v w at p c c found k out has free refl in let before = times_held homes seats id c v found at (one_hand z words homes seats wide flags hands c inside) out has p in
+    sent_here p = let moved = amount_sent homes seats id v w at (times p) refl c c found k out has free refl in let before = amount_held (times p) refl homes seats id c v found at (one_hand z words homes seats wide flags hands c inside) out has in
         let h = was p c inside in dite (ℕ_discrete o p)
         (λ (is : o ≡ p). let a = mine_before p c is in let b = mine_after p c is in
         let m : times p found ≤ is_just c v.belongs → times p k.list.items ≤ is_just c w.belongs = subst (λ (q : ℕ). times q found ≤ is_just c v.belongs → times q k.list.items ≤ is_just c w.belongs) is facts.mine in let n = m (omega arith) in omega arith)
         (λ (ne : o ≢ p). let a = else_after seats alone id o v w at own facts.own belongs_of c p ne in let l = facts.others p ne in omega arith)
 
     sent_apart : (p y : ℕ) → y < z.cvs + z.bars → y ≢ c → ListedWhereItBelongs p y (set homes c (maybe.some k)) (set seats id w)
-    sent_apart p y below apart = let moved = times_apart homes seats id v w at p y c found (maybe.some k) has free apart in let h = was p y below in dite (ℕ_discrete o p)
+    sent_apart p y below apart = let moved = amount_apart homes seats id v w at (times p) refl y c found (maybe.some k) has free apart in let h = was p y below in dite (ℕ_discrete o p)
         (λ (is : o ≡ p). let e = facts.elsewhere y apart in let a = mine_before p y is in let b = mine_after p y is in omega arith)
         (λ (ne : o ≢ p). let a = else_after seats alone id o v w at own facts.own belongs_of y p ne in omega arith)
 
@@ -135,9 +135,9 @@ module _ (z : Size) (words : List ℕ) (homes : Homes) (seats : List Stance) (wi
 
 -- a seat comes that is in no call and has no target
 pub listed_more : (slots : ℕ) (homes : Homes) (seats : List Stance) (own : Option ℕ) → TargetsAreListed slots homes seats → TargetsAreListed slots homes (seats ++ idle own ∷ [])
-listed_more slots homes seats own h p x below = let sum = total_snoc (listed_by p x) seats (idle own) in let more = total_snoc (belongs_to p x) seats (idle own) in let was = h p x below in omega arith
+listed_more slots homes seats own h p x below = let sum = total_snoc (amount_by (times p) x) seats (idle own) in let more = total_snoc (belongs_to p x) seats (idle own) in let was = h p x below in omega arith
 
 -- such a seat becomes another
 pub listed_idle : (slots : ℕ) (homes : Homes) (seats : List Stance) (id : ℕ) (own new : Option ℕ) → get_elem? seats id ≡ maybe.some (idle own) → TargetsAreListed slots homes seats → TargetsAreListed slots homes (set seats id (idle new))
-listed_idle slots homes seats id own new at h p x below = let sum = total_set (listed_by p x) seats id (idle own) (idle new) at in let more = total_set (belongs_to p x) seats id (idle own) (idle new) at in
+listed_idle slots homes seats id own new at h p x below = let sum = total_set (amount_by (times p) x) seats id (idle own) (idle new) at in let more = total_set (belongs_to p x) seats id (idle own) (idle new) at in
     let none = both_none p x own in let was = h p x below in omega arith

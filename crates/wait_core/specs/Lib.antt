@@ -23,6 +23,7 @@ pub mod Barriers
 pub mod Rule
 pub mod Wakes
 pub mod Runs
+pub mod Broadcasts
 pub mod Promises
 pub mod Told
 pub mod Seats

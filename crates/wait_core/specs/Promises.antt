@@ -1,5 +1,5 @@
 -- The statements of the laws over states and over runs.
-use Rattle.std.specs.Prelude.{◌≡◌, ℕ, ◌<◌, ◌≤◌, List, [], ◌∷◌, length, None, Some, slice_index}
+use Rattle.std.specs.Prelude.{◌≡◌, ◌⊎◌, ℕ, ◌<◌, ◌≤◌, List, [], ◌∷◌, length, None, Some, slice_index}
 use mathlib.Core.Option as maybe
 use lib.ListN.{get_elem?}
 use Rattle.atomic_table.specs.Table.{opening}
@@ -13,7 +13,9 @@ use Rattle.wait_core.specs.Machine.{WaitState}
 use Rattle.wait_core.specs.Parties.{newcomer}
 use Rattle.wait_core.specs.Seating.{fresh}
 use Rattle.wait_core.specs.Slots.{OpeningSlots}
-use Rattle.wait_core.specs.Runs.{Deed, Runs}
+use Rattle.seat_roster.specs.Roster.{times}
+use Rattle.wait_core.specs.Runs.{Deed, Runs, Somewhere}
+use Rattle.wait_core.specs.Broadcasts.{StandsBehind, AtFirstTake, TakesOff}
 use Rattle.wait_core.specs.Wakes.{IsAsleep, SleepsTillShutdown, LatchWakePending, ShutdownWakePending}
 
 module _ {C : Type 0} where
@@ -48,3 +50,12 @@ module _ {C : Type 0} where
   -- some list of events leads from an opening to the state
   abbrev pub IsReached : {X : Type 0} → (X → ClientOp) → (PartyView C → X → Type 0) → (PartyView C → X → ℕ → C) → C → C → (C → C → C) → (ℕ → ℕ) → (List ℕ → List (PartyView C) → List ℕ → Type 0) → ℕ → Size → ℕ → WaitState C → Type 0
   IsReached {X} does may then first spent both opens holds count z phase t = (s : WaitState C) × (es : List (ℕ × Deed X)) × IsOpening first opens holds count z phase s × Runs does may then first spent both z s es t
+
+  module _ {X : Type 0} (does : X → ClientOp) (may : PartyView C → X → Type 0) (then : PartyView C → X → ℕ → C) (first spent : C) (both : C → C → C) (z : Size) where
+    -- in a run from the first take of a broadcast: whoever was on the list left it since, by itself or popped, or the broadcaster still has the list as it was found, or its sentinel stands behind
+    abbrev pub SentinelStandsBehind : (s : WaitState C) (es : List (ℕ × Deed X)) (t : WaitState C) → Runs does may then first spent both z s es t → Type 0
+    SentinelStandsBehind s es t run = (id q c p : ℕ) (list : List ℕ) → AtFirstTake id q c list s → 1 ≤ times p list → Somewhere does may then first spent both z (TakesOff p c) s es t run ⊎ (AtFirstTake id q c list t ⊎ StandsBehind q p c t)
+
+    -- and once the broadcaster is in no call, everyone who was on the list left it since, by itself or popped
+    abbrev pub BroadcastWakesAll : (s : WaitState C) (es : List (ℕ × Deed X)) (t : WaitState C) → Runs does may then first spent both z s es t → Type 0
+    BroadcastWakesAll s es t run = (id q c p : ℕ) (list : List ℕ) (v : WaitView C) → AtFirstTake id q c list s → get_elem? t.views id ≡ maybe.some v → v.place ≡ [] → 1 ≤ times p list → Somewhere does may then first spent both z (TakesOff p c) s es t run

@@ -1,5 +1,5 @@
 -- Runs: lists of events, each made by a seat where the machine or the client allows it.
-use Rattle.std.specs.Prelude.{◌≡◌, ℕ, ◌+◌, ◌<◌, List, [], ◌∷◌, ◌++◌, Some, None, slice_set, slice_index}
+use Rattle.std.specs.Prelude.{◌≡◌, ◌⊎◌, ℕ, ◌+◌, ◌<◌, List, [], ◌∷◌, ◌++◌, Some, None, slice_set, slice_index}
 use mathlib.Core.Option as maybe
 use lib.ListN.{get_elem?}
 use Rattle.atomic_table.specs.Table.{keeps, stepped}
@@ -51,3 +51,8 @@ module _ {C X : Type 0} (does : X → ClientOp) (may : PartyView C → X → Typ
   abbrev pub Runs : WaitState C → List (ℕ × Deed X) → WaitState C → Type 0
   Runs s [] t = t ≡ s
   Runs s (e ∷ es) t = (m : WaitState C) × Steps s e m × Runs m es t
+
+  -- one event of the run is such: the state before it, the seat, and the state after it
+  abbrev pub Somewhere : (WaitState C → ℕ → WaitState C → Type 0) → (s : WaitState C) (es : List (ℕ × Deed X)) (t : WaitState C) → Runs s es t → Type 0
+  Somewhere P s [] t run = ⊥
+  Somewhere P s (e ∷ es) t run = P s e.0 run.0 ⊎ Somewhere P run.0 es t run.2

@@ -10,6 +10,7 @@ use Rattle.wait_core.specs.declared.view.WaitView.{WaitView}
 use Rattle.seat_roster.specs.Totals.{total}
 use Rattle.seat_roster.specs.Roster.{times}
 use Rattle.wait_core.specs.Jobs.{condition_of}
+use Rattle.wait_core.specs.Lists.{precedes}
 use Rattle.wait_core.specs.Machine.{Place, home_of}
 
 -- a condition whose list is in hand, as it was found
@@ -97,22 +98,29 @@ has_slot x (Some h) = cond (h.slot == x) 1 0
 abbrev pub has_list : ℕ → Stance → ℕ
 has_list x v = has_slot x v.hand
 
--- how often p is on the list of the slot x, in hand and at home
-abbrev pub hand_times : ℕ → ℕ → Option Hand → ℕ
-hand_times p x None = 0
-hand_times p x (Some h) = cond (h.slot == x) (times p h.list) 0
+-- what f counts of the list of the slot x, in hand and at home
+abbrev pub hand_amount : (List ℕ → ℕ) → ℕ → Option Hand → ℕ
+hand_amount f x None = 0
+hand_amount f x (Some h) = cond (h.slot == x) (f h.list) 0
 
-abbrev pub listed_by : ℕ → ℕ → Stance → ℕ
-listed_by p x v = hand_times p x v.hand
+abbrev pub amount_by : (List ℕ → ℕ) → ℕ → Stance → ℕ
+amount_by f x v = hand_amount f x v.hand
 
 abbrev pub Homes : Type 0
 Homes = List (maybe.Option Kept)
 
-abbrev pub home_times : ℕ → ℕ → Homes → ℕ
-home_times p x homes = times p (home_of (get_elem? homes x)).list.items
+abbrev pub home_amount : (List ℕ → ℕ) → ℕ → Homes → ℕ
+home_amount f x homes = f (home_of (get_elem? homes x)).list.items
 
+abbrev pub amount_on : (List ℕ → ℕ) → ℕ → Homes → List Stance → ℕ
+amount_on f x homes seats = home_amount f x homes + total (amount_by f x) seats
+
+-- how often p is on that list, and how often q stands behind it there
 abbrev pub times_on : ℕ → ℕ → Homes → List Stance → ℕ
-times_on p x homes seats = home_times p x homes + total (listed_by p x) seats
+times_on p x homes seats = amount_on (times p) x homes seats
+
+abbrev pub order_on : ℕ → ℕ → ℕ → Homes → List Stance → ℕ
+order_on p q x homes seats = amount_on (precedes p q) x homes seats
 
 -- 1 where the seat has the number p, and this is the condition x
 abbrev pub both_are : ℕ → ℕ → Option ℕ → Option ℕ → ℕ

@@ -12,7 +12,7 @@ ghost use Rattle.wait_core.specs.Seating.{doings_of, party_of};
 ghost use Rattle.wait_core.specs.WordsAreMade.{WordsAreMade};
 ghost use Rattle.wait_core.specs.Rule.{Rule};
 ghost use Rattle.wait_core.specs.Runs.{Deed, Steps, Runs, after_client};
-ghost use Rattle.wait_core.specs.Promises.{NoSetLatchIsSleptOn, NoShutdownIsSleptThrough, LastHoldsAlone, IsOpening, IsReached};
+ghost use Rattle.wait_core.specs.Promises.{NoSetLatchIsSleptOn, NoShutdownIsSleptThrough, LastHoldsAlone, IsOpening, IsReached, SentinelStandsBehind, BroadcastWakesAll};
 
 use crate::party::Party;
 use crate::view::Size;
@@ -49,6 +49,21 @@ pub fn set_latch_wakes<P: Party>(party: &P, size: Size, phase: u64)
 pub fn shutdown_wakes<P: Party>(party: &P, size: Size, phase: u64)
     ensures states { (s : WaitState P.View) → Rule (P.holds party.now) size phase (P.word_count party.now) s → NoShutdownIsSleptThrough size s }
     ensures runs { (s : WaitState P.View) → IsReached (P.does party.now) (P.may party.now) (P.after party.now) (P.first party.now) P.spent P.both (P.opens party.now) (P.holds party.now) (P.word_count party.now) size phase s → NoShutdownIsSleptThrough size s }
+{}
+
+/// Whoever stood on a condition's list at the first take of a broadcast has left it since, by a
+/// step of its own or popped, or the broadcaster still has the list in hand, or its sentinel stands
+/// behind.
+pub fn sentinel_stands_behind<P: Party>(party: &P, size: Size, phase: u64)
+    ensures states { (s t : WaitState P.View) (es : List (ℕ × Deed P.Step)) (run : Runs (P.does party.now) (P.may party.now) (P.after party.now) (P.first party.now) P.spent P.both size s es t) → Rule (P.holds party.now) size phase (P.word_count party.now) s → SentinelStandsBehind (P.does party.now) (P.may party.now) (P.after party.now) (P.first party.now) P.spent P.both size s es t run }
+    ensures runs { (s t : WaitState P.View) (es : List (ℕ × Deed P.Step)) (run : Runs (P.does party.now) (P.may party.now) (P.after party.now) (P.first party.now) P.spent P.both size s es t) → IsReached (P.does party.now) (P.may party.now) (P.after party.now) (P.first party.now) P.spent P.both (P.opens party.now) (P.holds party.now) (P.word_count party.now) size phase s → SentinelStandsBehind (P.does party.now) (P.may party.now) (P.after party.now) (P.first party.now) P.spent P.both size s es t run }
+{}
+
+/// When a broadcast has returned, everyone who stood on the list at its first take has left it
+/// since, by a step of its own or popped.
+pub fn broadcast_wakes_all<P: Party>(party: &P, size: Size, phase: u64)
+    ensures states { (s t : WaitState P.View) (es : List (ℕ × Deed P.Step)) (run : Runs (P.does party.now) (P.may party.now) (P.after party.now) (P.first party.now) P.spent P.both size s es t) → Rule (P.holds party.now) size phase (P.word_count party.now) s → BroadcastWakesAll (P.does party.now) (P.may party.now) (P.after party.now) (P.first party.now) P.spent P.both size s es t run }
+    ensures runs { (s t : WaitState P.View) (es : List (ℕ × Deed P.Step)) (run : Runs (P.does party.now) (P.may party.now) (P.after party.now) (P.first party.now) P.spent P.both size s es t) → IsReached (P.does party.now) (P.may party.now) (P.after party.now) (P.first party.now) P.spent P.both (P.opens party.now) (P.holds party.now) (P.word_count party.now) size phase s → BroadcastWakesAll (P.does party.now) (P.may party.now) (P.after party.now) (P.first party.now) P.spent P.both size s es t run }
 {}
 
 /// Whether a backend may sleep stands in its word: 0 wherever its seat is in no wait.
