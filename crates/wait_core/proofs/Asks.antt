@@ -21,6 +21,7 @@ use Rattle.wait_core.specs.Rule.{Rule}
 use Rattle.wait_core.specs.Told.{Tells, does, does_client, looks, draws, Turns, Cuts, Glues}
 use Rattle.wait_core.specs.Seats.{TableView, table_view, size_of}
 use Rattle.wait_core.specs.Sending.{HasSlot}
+use Rattle.wait_core.specs.Stances.{stance_of, belongs_at}
 use Rattle.wait_core.proofs.Hands.{hand_follows}
 use Rattle.wait_core.proofs.InHand.{act_valid, step_tells}
 use Rattle.wait_core.proofs.RuleKept.{step_kept, word_inside, own_below}
@@ -70,9 +71,9 @@ module _ {C : Type 0} (holds : List ℕ → List (PartyView C) → List ℕ → 
       ))
     where
       tells : (s : WaitState C) → Rule holds z phase count s → get_elem? s.views id ≡ maybe.some me.0 → Permits z k (Some o) me.0.target me.0.place → (n : ℕ) (found : Kept) → n ≡ get_or s.words (word_of z o k) 0 → found ≡ home_in s.homes (slot_number z k)
-          → Tells z k (number_of me.0.own) n found.list.items
-      tells s r there mine n found n_is found_is = subst (λ (x : ℕ × ℕ × Kept). Tells z k x.0 x.1 x.2.list.items) (λ i. (sym (ap number_of own) i, sym n_is i, sym found_is i))
-          (step_tells z (get_or s.words 0 0) s.words s.homes s.views r.roster.few r.roster r.lists o (Some o) me.0.target me.0.place k mine (own_below holds z phase count s r id me.0 o there own))
+          → Tells z k (number_of me.0.own) (belongs_at me.0.target me.0.place) n found.list.items
+      tells s r there mine n found n_is found_is = subst (λ (x : ℕ × ℕ × Kept). Tells z k x.0 (belongs_at me.0.target me.0.place) x.1 x.2.list.items) (λ i. (sym (ap number_of own) i, sym n_is i, sym found_is i))
+          (step_tells z (get_or s.words 0 0) s.words s.homes s.views r.roster.few r.roster r.lists o (Some o) me.0.target me.0.place k mine id (stance_of me.0) (at_map stance_of s.views id me.0 there) own (own_below holds z phase count s r id me.0 o there own))
 
   -- a step of the client
   pub client_turns : (slots id : ℕ) (me : Me Kept (WaitView C)) (word : ℕ) (op : ClientOp) (then : ℕ → C) (told : ℕ → Type 0) → word ≡ client_base z + op_at op → op_at op < count → (p : ℕ) → me.0.own ≡ Some p → me.0.place ≡ []

@@ -1,6 +1,8 @@
 -- What is taken in hand was at home, and its list holds backends of the table, each once.
-use Rattle.std.proofs.Common.{◌≡◌, ℕ, ◌+◌, ◌<◌, ◌≤◌, eqb, Bool, true, false, cond, List, length, map, get_or, Option, None, Some, refl, sym, ap, ◌∙◌, subst, arith, eqb-true}
+use Rattle.std.proofs.Common.{◌≡◌, ◌≢◌, ℕ, ◌+◌, ◌<◌, ◌≤◌, eqb, Bool, true, false, cond, List, length, map, get_or, Option, None, Some, refl, sym, ap, ◌∙◌, subst, arith, eqb-true}
+use mathlib.Core.Logic.{dite}
 use mathlib.Core.Option as maybe
+use native.Mathlib.Decide.{ℕ_discrete}
 use lib.ListN.{get_elem?}
 use Rattle.atomic_table.specs.Table.{Valid, keeps, takes}
 use Rattle.atomic_table.proofs.Lists.{at_map}
@@ -18,11 +20,11 @@ use Rattle.wait_core.specs.Words.{slot_of, spin_at}
 use Rattle.wait_core.specs.Lists.{is_listed, AllBelow}
 use Rattle.wait_core.specs.Machine.{Place, home_of, home_in, slot_number, word_of, act_of, Permits}
 use Rattle.wait_core.specs.Seating.{numbers_of}
-use Rattle.wait_core.specs.Stances.{Stance, Homes, stance_of, both_are, belongs_to}
+use Rattle.wait_core.specs.Stances.{Stance, Homes, stance_of, both_are, is_just, belongs_to}
 use Rattle.wait_core.specs.ListsStand.{ListsStand}
 use Rattle.wait_core.specs.Told.{TellsList, Tells}
-use Rattle.wait_core.proofs.Lists.{not_listed, fits_below, room_below, all_below}
-use Rattle.wait_core.proofs.Owning.{both_else, counts_most, alone_stances}
+use Rattle.wait_core.proofs.Lists.{listed_there, not_listed, fits_below, room_below, all_below}
+use Rattle.wait_core.proofs.Owning.{both_else, counts_most, own_counts, just_else, alone_stances}
 
 module _ {C : Type 0} (z : Size) (next : ℕ) (words : List ℕ) (homes : Homes) (views : List (WaitView C)) (few : next ≤ z.procs) (roster : Roster z.procs next (map numbers_of views)) (stand : ListsStand z words homes (map stance_of views)) where
   abbrev seats : List Stance
@@ -43,10 +45,20 @@ module _ {C : Type 0} (z : Size) (next : ℕ) (words : List ℕ) (homes : Homes)
     once : (q : ℕ) → times q k.list.items ≤ 1
     once q = let on = on_list q in let one = counts_most seats q x (λ v. v.belongs) (alone_stances z.procs next views roster) in omega arith
 
-    pub tells_list : (own : ℕ) → own < z.procs → TellsList z own k.list.items
-    tells_list own below =
+    -- the backend of this seat
+    belongs_here : (id : ℕ) (v : Stance) → get_elem? seats id ≡ maybe.some v → (own : ℕ) → v.own ≡ Some own → is_listed own k.list.items ≡ true → v.belongs ≡ Some x
+    belongs_here id v at own mine on =
+        let there = listed_there own k.list.items on in let h = on_list own in let one = own_counts seats (alone_stances z.procs next views roster) id own v v at mine refl (λ u. u.belongs) x in
+        by_belongs v.belongs (omega arith)
+      where
+        by_belongs : (b : Option ℕ) → 1 ≤ is_just x b → b ≡ Some x
+        by_belongs None h = absurd (omega arith)
+        by_belongs (Some y) h = dite (ℕ_discrete y x) (λ (e : y ≡ x). ap (λ (n : ℕ). Some n) e) (λ (ne : y ≢ x). let none = just_else x y (Some y) refl ne in absurd (omega arith))
+
+    pub tells_list : (id : ℕ) (v : Stance) → get_elem? seats id ≡ maybe.some v → (own : ℕ) → v.own ≡ Some own → own < z.procs → TellsList z own v.belongs x k.list.items
+    tells_list id v at own mine below =
         let all = all_below z.procs k.list.items (λ q more. let on = on_list q in let none = strange q x more in omega arith) in
-        record { all = all; few = fits_below z.procs k.list.items all once; room = λ off. room_below z.procs k.list.items all once own below (not_listed own k.list.items off) }
+        record { all = all; few = fits_below z.procs k.list.items all once; once = once own; mine = belongs_here id v at own mine; room = λ off. room_below z.procs k.list.items all once own below (not_listed own k.list.items off) }
 
   -- a spin word is found clear
   module _ (o : ℕ) (own t : Option ℕ) (p : Place) where
@@ -66,7 +78,7 @@ module _ {C : Type 0} (z : Size) (next : ℕ) (words : List ℕ) (homes : Homes)
     act_valid (Free x after) ok c = tt
     act_valid k ok c = tt
 
-    pub step_tells : (k : WaitStep) → Permits z k own t p → o < z.procs → Tells z k o (get_or words (word_of z o k) 0) (home_in homes (slot_number z k)).list.items
-    step_tells (Take x (Some b)) ok below = λ clear. tells_list (slot_of z x) ok.0 (home_in homes (slot_of z x)) (taken_home (slot_of z x) ok.0 clear) o below
-    step_tells (Take x None) ok below = λ clear. tells_list (slot_of z x) ok.0 (home_in homes (slot_of z x)) (taken_home (slot_of z x) ok.0 clear) o below
-    step_tells k ok below = tt
+    pub step_tells : (k : WaitStep) → Permits z k own t p → (id : ℕ) (v : Stance) → get_elem? seats id ≡ maybe.some v → v.own ≡ Some o → o < z.procs → Tells z k o v.belongs (get_or words (word_of z o k) 0) (home_in homes (slot_number z k)).list.items
+    step_tells (Take x (Some b)) ok id v at mine below = λ clear. tells_list (slot_of z x) ok.0 (home_in homes (slot_of z x)) (taken_home (slot_of z x) ok.0 clear) id v at o mine below
+    step_tells (Take x None) ok id v at mine below = λ clear. tells_list (slot_of z x) ok.0 (home_in homes (slot_of z x)) (taken_home (slot_of z x) ok.0 clear) id v at o mine below
+    step_tells k ok id v at mine below = tt

@@ -1,5 +1,6 @@
 -- What each step tells its seat.
-use Rattle.std.specs.Prelude.{◌≡◌, ℕ, ◌+◌, ◌<◌, ◌≤◌, ◌==◌, cond, false, List, length, Option, None, Some, ⊤}
+use Rattle.std.specs.Prelude.{◌≡◌, ℕ, ◌+◌, ◌<◌, ◌≤◌, ◌==◌, cond, true, false, List, length, Option, None, Some, ⊤}
+use Rattle.seat_roster.specs.Roster.{times}
 use Rattle.atomic_table.specs.Table.{Me, Step, Allows, Splits, Joins, carried_after}
 use Rattle.wait_core.specs.declared.step.WaitStep.{WaitStep}
 use Rattle.wait_core.specs.declared.step.WaitStep.TheVariants.{Take, Free}
@@ -10,20 +11,22 @@ use Rattle.wait_core.specs.declared.view.WaitView.{WaitView}
 use Rattle.wait_core.specs.Lists.{is_listed, AllBelow}
 use Rattle.wait_core.specs.Words.{slot_of}
 use Rattle.wait_core.specs.Machine.{number_of, next_with, act_of}
-use Rattle.wait_core.specs.Stances.{slot_in, hand_at}
+use Rattle.wait_core.specs.Stances.{slot_in, hand_at, belongs_at}
 use Rattle.wait_core.specs.Seating.{client_moved, with_drawn}
 use Rattle.wait_core.specs.Rule.{Rule}
 
--- on a list that was taken in hand stand backends of the table alone, and there is room for the backend `own` where it isn't among them
-pub record TellsList (z : Size) (own : ℕ) (found : List ℕ) : Type 0 where
+-- On the list of the slot x, which was taken in hand, stand backends of the table alone. The backend `own` is on it once, and only where it belongs there; else there is room for it
+pub record TellsList (z : Size) (own : ℕ) (belongs : Option ℕ) (x : ℕ) (found : List ℕ) : Type 0 where
   pub all : AllBelow z.procs found
   pub few : length found ≤ z.procs
+  pub once : times own found ≤ 1
+  pub mine : is_listed own found ≡ true → belongs ≡ Some x
   pub room : is_listed own found ≡ false → length found < z.procs
 
 -- what a step that found n tells of the list that it took in hand
-abbrev pub Tells : Size → WaitStep → ℕ → ℕ → List ℕ → Type 0
-Tells z (Take x begins) own n found = n ≡ 0 → TellsList z own found
-Tells z k own n found = ⊤
+abbrev pub Tells : Size → WaitStep → ℕ → Option ℕ → ℕ → List ℕ → Type 0
+Tells z (Take x begins) own belongs n found = n ≡ 0 → TellsList z own belongs (slot_of z x) found
+Tells z k own belongs n found = ⊤
 
 -- the slot that is out with the seat after a step that found n
 abbrev pub slot_then : Size → WaitStep → ℕ → Option ℕ → Option ℕ
@@ -38,7 +41,7 @@ module _ {C : Type 0} where
 
   -- a step of the machine that found n: the view goes on as the machine says, what a spin word guards leaves its slot or goes home, and n was 0 or 1
   abbrev pub does : Size → WaitStep → Me Kept (WaitView C) → ℕ → Me Kept (WaitView C) → Type 0
-  does z k m n m' = (found : Kept) × (m'.0 ≡ next_with z k m.0 n found) × (m'.1 ≡ carried_after m.1 (act_of z k n found)) × (n ≤ 1) × Tells z k (number_of m.0.own) n found.list.items × HandFollows z k m.0 n found
+  does z k m n m' = (found : Kept) × (m'.0 ≡ next_with z k m.0 n found) × (m'.1 ≡ carried_after m.1 (act_of z k n found)) × (n ≤ 1) × Tells z k (number_of m.0.own) (belongs_at m.0.target m.0.place) n found.list.items × HandFollows z k m.0 n found
 
   -- a step of the client, after which its view is c of the word found, and which told something of it
   abbrev pub does_client : (ℕ → C) → (ℕ → Type 0) → Me Kept (WaitView C) → ℕ → Me Kept (WaitView C) → Type 0

@@ -7,6 +7,7 @@ ghost use Rattle.wait_core.specs.Parties.{newcomer};
 ghost use Rattle.wait_core.specs.Places.{is_asleep};
 ghost use Rattle.wait_core.specs.Seating.{party_of, fresh, client_moved, after_draw, stays, took_in};
 ghost use Rattle.wait_core.specs.Told.{Tells, Turns, Cuts};
+ghost use Rattle.wait_core.specs.Stances.{belongs_at};
 ghost use Rattle.wait_core.specs.Sending.{SendsHome, ListAfter, IsTaking, IsFreeing, IsApart};
 ghost use Rattle.wait_core.specs.Closing.{Ends, Stood};
 ghost use Rattle.wait_core.specs.Seats.{size_of};
@@ -140,7 +141,7 @@ impl<P: Party> WaitTable<P> {
         ensures hand { ListAfter step result.old seat.old seat.new }
         ensures changed { result.changed ≡ writes step }
         ensures told { result.old ≤ 1 }
-        ensures list { Tells (size_of self.now) step (number_of seat.old.view.own) result.old seat.new.list }
+        ensures list { Tells (size_of self.now) step (number_of seat.old.view.own) (belongs_at seat.old.view.target seat.old.view.place) result.old seat.new.list }
     {
         let changed = step.writes();
         let old = match &step {
@@ -161,7 +162,7 @@ impl<P: Party> WaitTable<P> {
         ensures view { seat.new.view ≡ next_with (size_of self.now) step seat.old.view result (as_kept seat.new.list seat.new.record) }
         ensures hand { ListAfter step result seat.old seat.new }
         ensures told { result ≤ 1 }
-        ensures list { Tells (size_of self.now) step (number_of seat.old.view.own) result seat.new.list }
+        ensures list { Tells (size_of self.now) step (number_of seat.old.view.own) (belongs_at seat.old.view.target seat.old.view.place) result seat.new.list }
     {
         let _ = &self.table;
         let slot = self.slot_number(step);
