@@ -22,7 +22,7 @@ use Rattle.seat_roster.proofs.Totals.{total_map, total_sum_le}
 use Rattle.seat_roster.proofs.Stretches.{frame, seen, seen_more, at_seen, unseen, for_same}
 use Rattle.lw_core.proofs.Holders.{one_mode, counts_granted, counts_released, counts_flagged, counts_more}
 use Rattle.lw_core.proofs.Flags.{part_set, part_unlocked, part_woken, small_set, small_unlocked, small_woken}
-use Rattle.lw_core.proofs.Touches.{on_exchange, on_lock, some_mode, hold_here, hold_else, word_apart, fresh_hold}
+use Rattle.lw_core.proofs.Touches.{on_exchange, on_lock, hold_here, hold_else, word_apart, fresh_hold}
 use Rattle.lw_core.proofs.Places as places
 
 module _ (lawful : ℕ → List ℕ → Type 0) (z : Size) (s : LwState) (r : Rule lawful z s) where

@@ -1,5 +1,5 @@
 -- Each kind of step leaves a place whose frames stand.
-use Rattle.std.proofs.Common.{◌≡◌, ℕ, ◌+◌, ◌-◌, ◌<◌, eqb, Bool, true, false, cond, List, [], ◌∷◌, ◌++◌, get_or, set, Option, None, Some, refl, sym, ap, ◌∙◌, subst, append-nil}
+use Rattle.std.proofs.Common.{◌≡◌, ℕ, ◌+◌, ◌-◌, ◌<◌, eqb, Bool, true, false, cond, List, [], ◌∷◌, get_or, set, Option, None, Some, refl, sym, ◌∙◌, subst, append-nil}
 use mathlib.Core.Option as maybe
 use lib.ListN.{get_elem?}
 use Rattle.proc_table.specs.declared.Mode.{Mode}
@@ -9,7 +9,7 @@ use Rattle.lw_core.specs.declared.step.Call.{Call}
 use Rattle.lw_core.specs.declared.step.Call.TheVariants as call
 use Rattle.lw_core.specs.declared.step.LwStep.{LwStep}
 use Rattle.lw_core.specs.declared.step.LwStep.TheVariants as kind
-use Rattle.lw_core.specs.declared.view.Frame.TheVariants.{Attempting, Trying, Unqueued, Queued, TakingList, Spinning, Queueing, Flagging, Announcing, Appending, Dequeueing, Checking, Removing, Withdrawing, Answering, Looking, Asleep, Downing, Sleeping, Woken, GivingBack, Waking, Marking, Detaching, Clearing, Posting, Peeking, Comparing, Reading, Returning, VarUnqueued, Allowing, VarQueued, VarLeaving, Storing, Publishing, Calling, Unhanding, Releasing}
+use Rattle.lw_core.specs.declared.view.Frame.TheVariants.{Attempting, Trying, Unqueued, Queued, TakingList, Spinning, Queueing, Flagging, Announcing, Appending, Dequeueing, Checking, Removing, Withdrawing, Answering, Looking, Asleep, Downing, Sleeping, Woken, GivingBack, Waking, Marking, Detaching, Clearing, Posting, Peeking, Comparing, Reading, Returning, VarUnqueued, Allowing, VarQueued, VarLeaving, Storing, Publishing, Calling, Unhanding}
 use Rattle.lw_core.specs.declared.view.Hold.{Hold}
 use Rattle.lw_core.specs.declared.view.Size.{Size}
 use Rattle.lw_core.specs.declared.view.View.{View}
@@ -18,13 +18,13 @@ use Rattle.lw_core.specs.declared.view.Want.{Want}
 use Rattle.lw_core.specs.declared.view.Want.TheVariants as want
 use Rattle.lw_core.specs.Words.{state_at, sem_at, waiting_at, is_free, grant_of, locked, has_flag}
 use Rattle.lw_core.specs.WaitLists.{AllBelow, taken_from, home_list}
-use Rattle.lw_core.specs.Machine.{LwState, Place, top, outer, not_held, held, hold_in, number_of, lock_number, word_of, want_of, resumed, on_grant, on_waking, on_refusal, loaded, peeked, on_outcome, on_conflict, calls_for_wake, after_store, releasing, let_go, taking, in_hand, flagged, compared, published, stored, reread, telling, sent_home, detached, posted, surplus_posted, looked, answered, moved, gripped, poked_by, next, guard_hold, guard_becomes, IsInRange, BeginsTaking, BeginsAttempt, Allowed, after, LeavesLawful}
+use Rattle.lw_core.specs.Machine.{LwState, Place, outer, not_held, held, hold_in, number_of, lock_number, word_of, resumed, on_grant, on_waking, on_refusal, loaded, peeked, on_outcome, on_conflict, calls_for_wake, after_store, releasing, taking, in_hand, flagged, compared, published, stored, reread, telling, sent_home, detached, posted, surplus_posted, looked, answered, moved, gripped, next, guard_hold, IsInRange, BeginsTaking, BeginsAttempt, Allowed, after, LeavesLawful}
 use Rattle.lw_core.specs.SeatFits.{FollowsAttempt, PlaceFits}
-use Rattle.lw_core.specs.FramesStand.{MayLetGo, FrameStands, AllStand, FramesStand}
+use Rattle.lw_core.specs.FramesStand.{AllStand, FramesStand}
 use Rattle.lw_core.specs.Rule.{Rule}
 use Rattle.lw_core.specs.Runs.{drew_one, stays, comes, both, spent, drawn, split, joined}
 use Rattle.lw_core.proofs.Below.{taken_below, until_free_below}
-use Rattle.lw_core.proofs.Touches.{on_exchange, top_is, begun_release, poked_keeps}
+use Rattle.lw_core.proofs.Touches.{on_exchange, begun_release, poked_keeps}
 use Rattle.lw_core.proofs.Places as places
 
 either_of : {A : Type 0} (P : A → Type 0) (b : Bool) (x y : A) → P x → P y → P (cond b x y)

@@ -19,7 +19,7 @@ use Rattle.lw_core.specs.declared.view.View.{View}
 use Rattle.lw_core.specs.declared.view.Size.{Size}
 use Rattle.lw_core.specs.declared.view.Waiter.{Waiter}
 use Rattle.lw_core.specs.Words.{Waiters, locked, has_flag}
-use Rattle.lw_core.specs.Machine.{Place, not_held, held, hold_in, mode_in, number_of, outer, on_grant, moved, gripped, lock_of, lock_number, exchanges, takes_list, sends_home, as_waiters, act_of, next, MaySendHome, MayDetach, Allowed, BeginsTaking, guard_hold}
+use Rattle.lw_core.specs.Machine.{Place, not_held, held, hold_in, number_of, outer, on_grant, moved, gripped, lock_of, lock_number, exchanges, takes_list, sends_home, as_waiters, act_of, next, MaySendHome, MayDetach, Allowed, BeginsTaking, guard_hold}
 use Rattle.lw_core.specs.Stances.{Hand, hand_at}
 use Rattle.lw_core.specs.Ops.{about}
 use Rattle.lw_core.specs.Seats.{SeatView, seat_view, mode_of_hold, Carries, IsSeated}

@@ -1,5 +1,5 @@
 -- Each step leaves a word that the steps of the seats account for.
-use Rattle.std.proofs.Common.{◌≡◌, ◌≢◌, ℕ, ◌+◌, ◌*◌, ◌/◌, ◌%◌, ◌<◌, ◌≤◌, eqb, Bool, true, false, cond, nat_lt, List, [], ◌∷◌, ◌++◌, length, map, get_or, set, Option, None, Some, refl, sym, ap, ◌∙◌, subst, arith, eq-eqb, ne_eqb, get_or-set_other}
+use Rattle.std.proofs.Common.{◌≡◌, ℕ, ◌+◌, ◌/◌, ◌%◌, ◌<◌, eqb, List, [], ◌∷◌, ◌++◌, map, get_or, set, Option, None, refl, ap, ◌∙◌, arith, get_or-set_other}
 use Rattle.std.proofs.lemmas.Bool.Decides.{nat_tests}
 use mathlib.Core.Logic.{dite}
 use mathlib.Core.Option as maybe
@@ -10,7 +10,6 @@ use Rattle.seat_roster.specs.WordsAreMade.{signed}
 use Rattle.seat_roster.proofs.WordsAreMade.{one_more, both_taken}
 use Rattle.seat_roster.proofs.WordsAreMade as roster
 use Rattle.seat_roster.proofs.Stretches.{seen, seen_more, unseen, for_same}
-use Rattle.lw_core.specs.declared.step.Call.{Call}
 use Rattle.lw_core.specs.declared.step.LwStep.{LwStep}
 use Rattle.lw_core.specs.declared.step.LwStep.TheVariants as kind
 use Rattle.lw_core.specs.declared.view.Made.{Made}

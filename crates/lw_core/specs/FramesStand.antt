@@ -1,5 +1,5 @@
 -- What each frame of a place names is the table's, and who will let go of a lock after a store leaves lawful words.
-use Rattle.std.specs.Prelude.{◌≡◌, ℕ, ◌<◌, Bool, true, false, cond, List, [], ◌∷◌, slice_index_or, ⊤}
+use Rattle.std.specs.Prelude.{◌≡◌, ℕ, ◌<◌, true, List, [], ◌∷◌, slice_index_or, ⊤}
 use mathlib.Core.Option as maybe
 use lib.ListN.{get_elem?}
 use Rattle.lw_core.specs.declared.view.Frame.{Frame}

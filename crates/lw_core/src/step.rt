@@ -6,8 +6,8 @@ ghost use Rattle.lw_core.specs.Sending.{pokes_by};
 
 use crate::view::Size;
 use crate::words::{
-    HAS_WAITERS, LOCKED, RELEASE_OK, grant, guarded_word, sem_word, state_word,
-    variable_word, waiting_word,
+    HAS_WAITERS, LOCKED, RELEASE_OK, grant, guarded_word, sem_word, state_word, variable_word,
+    waiting_word,
 };
 use proc_table::{LockNo, Mode, ProcNo};
 

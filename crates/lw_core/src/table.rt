@@ -157,12 +157,7 @@ impl<G: Guarded> LwTable<G> {
 
     // Makes the step on its word. The slot of a list that goes home has it already.
     #[inline(always)]
-    fn make<K: Doing>(
-        &self,
-        seat: &mut Seat<Waiters, View>,
-        own: ProcNo,
-        step: LwStep,
-    ) -> u64
+    fn make<K: Doing>(&self, seat: &mut Seat<Waiters, View>, own: ProcNo, step: LwStep) -> u64
         requires table { seat.old.table_id ≡ self.now.table_id }
         requires inside { 2 + 6 * seat.old.table_id.slots + 2 * own < seat.old.table_id.words }
         requires range { IsInRange (size_of self.now) step }

@@ -150,8 +150,14 @@ fn steps_find_the_words_of_two_shared_grants(rt: HostRuntime) -> Result<(), Fail
     assert!(rt; refused.changed);
     let waits = Some(Call::WaitForVar(lock, 0));
     let peeked = table.step(&mut two, LwStep::Peek(lock, waits)).old;
-    let left = table.step(&mut zero, LwStep::Sub(lock, Mode::Shared, Some(Call::Release(lock))));
-    let last = table.step(&mut one, LwStep::Sub(lock, Mode::Shared, Some(Call::Release(lock))));
+    let left = table.step(
+        &mut zero,
+        LwStep::Sub(lock, Mode::Shared, Some(Call::Release(lock))),
+    );
+    let last = table.step(
+        &mut one,
+        LwStep::Sub(lock, Mode::Shared, Some(Call::Release(lock))),
+    );
     let found = [first, second, granted.old, retried.old, again.old];
     assert_eq!(rt;
         found,

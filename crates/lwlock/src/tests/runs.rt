@@ -203,7 +203,12 @@ pub(crate) fn wakes<R: Abort>(
         unreachable!()
     };
     let begins = Some(Call::Release(lock));
-    line(rt, table.step(seat, LwStep::Sub(lock, mode, begins)), held, true);
+    line(
+        rt,
+        table.step(seat, LwStep::Sub(lock, mode, begins)),
+        held,
+        true,
+    );
     assert!(rt; wakes_after(left_word(held, mode)) && list_is_home(word));
     line(rt, table.step(seat, LwStep::Lock(lock, None)), word, true);
     let taken = part(&mut seat.list().items);
@@ -251,7 +256,10 @@ fn last_release_wakes_the_waiter(rt: HostRuntime) -> Result<(), Fail> {
     line(&rt, table.step(&mut two, LwStep::Look(None)), 0, false);
     line(
         &rt,
-        table.step(&mut zero, LwStep::Sub(lock, Mode::Shared, Some(Call::Release(lock)))),
+        table.step(
+            &mut zero,
+            LwStep::Sub(lock, Mode::Shared, Some(Call::Release(lock))),
+        ),
         0x6000_0002,
         true,
     );

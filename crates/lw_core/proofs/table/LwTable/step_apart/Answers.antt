@@ -1,4 +1,3 @@
-use Rattle.std.proofs.Common.{ap, sym, ◌∙◌}
 use Rattle.lw_core.specs.Closing.{size_of}
 use Rattle.lw_core.proofs.SeatLemmas.{allowed_in, seated_after, holds_long}
 use Rattle.lw_core.proofs.table.LwTable.step_apart.Goals as goal
