@@ -1,5 +1,7 @@
 -- What the rule says of who sleeps.
-use Rattle.std.proofs.Common.{◌≡◌, ℕ, ◌<◌, Bool, true, List, map, get_or, Option, None, Some, refl, ap, ◌∙◌, arith}
+use Rattle.std.proofs.Common.{◌≡◌, ◌⊎◌, ℕ, ◌<◌, Bool, true, List, [], ◌∷◌, map, get_or, Option, None, Some, refl, ap, ◌∙◌, inl, inr, arith}
+use mathlib.Core.Logic.{dite}
+use native.Mathlib.Decide.{ℕ_discrete}
 use mathlib.Core.Option as maybe
 use lib.ListN.{get_elem?}
 use Rattle.atomic_table.proofs.Lists.{at_map}
@@ -9,14 +11,24 @@ use Rattle.wait_core.specs.declared.view.PartyView.{PartyView}
 use Rattle.wait_core.specs.declared.view.Size.{Size}
 use Rattle.wait_core.specs.declared.view.WaitView.{WaitView}
 use Rattle.wait_core.specs.Words.{set_at, may_at, shut_at}
-use Rattle.wait_core.specs.Machine.{WaitState, top, bit}
+use Rattle.wait_core.specs.Machine.{WaitState, Place, top, bit}
 use Rattle.wait_core.specs.Seating.{numbers_of, standing_of}
 use Rattle.wait_core.specs.Places.{may_sleep, past_latch, past_shutdown, is_asleep, backend_count}
 use Rattle.wait_core.specs.Rule.{Rule}
-use Rattle.wait_core.specs.Wakes.{IsAsleep, SleepsTillShutdown, LatchWakePending, ShutdownWakePending}
+use Rattle.wait_core.specs.Wakes.{IsAsleep, SleepsTillShutdown, LatchWakePending, ShutdownWakePending, SignalPending}
+use Rattle.wait_core.specs.Stances.{stance_of, heeds_at, heeds_for}
+use Rattle.wait_core.specs.Broadcasts.{listed_on}
+use Rattle.seat_roster.proofs.Totals.{total_at}
+use Rattle.wait_core.proofs.Owning.{just_here, both_here}
 use Rattle.wait_core.proofs.Counts.{backend_is}
 use Rattle.seat_roster.proofs.Numbers.{one_seat}
 use Rattle.wait_core.proofs.RuleKept.{alone, own_below}
+
+-- who sleeps is past no reset
+sleeps_heeding : (c : ℕ) (heeds : Bool) (t : Option ℕ) (p : Place) → heeds ≡ true → t ≡ Some c → is_asleep (top p) ≡ true → heeds_at heeds t p ≡ Some c
+sleeps_heeding c heeds t (Asleep w ∷ p) on target h = λ i. heeds_at (on i) (target i) (Asleep w ∷ p)
+sleeps_heeding c heeds t [] on target h = absurd (cc)
+sleeps_heeding c heeds t (f ∷ p) on target h = absurd (cc)
 
 sleeps_past_latch : (t : Option Frame) → is_asleep t ≡ true → past_latch t ≡ true
 sleeps_past_latch (Some (Asleep w)) h = refl
@@ -32,6 +44,14 @@ module _ {C : Type 0} (holds : List ℕ → List (PartyView C) → List ℕ → 
 
   pub asleep_wakes : IsAsleep v → get_or s.words (set_at p) 0 ≡ 1 → LatchWakePending p s
   asleep_wakes asleep up = r.latches p below (let a = counted past_latch in let b : bit (past_latch (top v.place)) ≡ 1 = ap bit (sleeps_past_latch (top v.place) asleep) in omega arith) up
+
+  pub signalled_wakes : (c : ℕ) → v.target ≡ Some c → v.heeds ≡ true → listed_on p c s ≡ 0 → IsAsleep v → LatchWakePending p s ⊎ SignalPending p s
+  signalled_wakes c target on off asleep =
+      let inside : c < z.cvs = r.places.targets id (standing_of v) (at_map standing_of s.views id v at) c target in
+      let one = both_here p c v.own (stance_of v).heeds own ∙ just_here c (stance_of v).heeds (sleeps_heeding c v.heeds v.target v.place on target asleep) in
+      let all = total_at (heeds_for p c) (map stance_of s.views) id (stance_of v) (at_map stance_of s.views id v at) in
+      let reaches = r.lists.signals p c below (omega arith) (omega arith) off in
+      dite (ℕ_discrete (get_or s.words (set_at p) 0) 1) (λ up. inl (asleep_wakes asleep up)) (λ clear. inr (let flag = r.flags (set_at p) (omega (arith, below)) (omega (arith, below)) in omega arith))
 
   pub stopped_wakes : SleepsTillShutdown v → get_or s.words (shut_at z) 0 ≡ 1 → ShutdownWakePending p s
   stopped_wakes asleep up = r.shutdown p below (let a = counted past_shutdown in let b : bit (past_shutdown (top v.place)) ≡ 1 = ap (λ t. bit (past_shutdown t)) asleep in omega arith) up

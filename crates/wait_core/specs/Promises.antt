@@ -1,5 +1,5 @@
 -- The statements of the laws over states and over runs.
-use Rattle.std.specs.Prelude.{◌≡◌, ◌⊎◌, ℕ, ◌<◌, ◌≤◌, List, [], ◌∷◌, length, None, Some, slice_index}
+use Rattle.std.specs.Prelude.{◌≡◌, ◌⊎◌, ℕ, ◌<◌, ◌≤◌, List, [], ◌∷◌, length, true, None, Some, slice_index}
 use mathlib.Core.Option as maybe
 use lib.ListN.{get_elem?}
 use Rattle.atomic_table.specs.Table.{opening}
@@ -15,8 +15,8 @@ use Rattle.wait_core.specs.Seating.{fresh}
 use Rattle.wait_core.specs.Slots.{OpeningSlots}
 use Rattle.seat_roster.specs.Roster.{times}
 use Rattle.wait_core.specs.Runs.{Deed, Runs, Somewhere}
-use Rattle.wait_core.specs.Broadcasts.{StandsBehind, AtFirstTake, TakesOff}
-use Rattle.wait_core.specs.Wakes.{IsAsleep, SleepsTillShutdown, LatchWakePending, ShutdownWakePending}
+use Rattle.wait_core.specs.Broadcasts.{listed_on, StandsBehind, AtFirstTake, TakesOff}
+use Rattle.wait_core.specs.Wakes.{IsAsleep, SleepsTillShutdown, LatchWakePending, ShutdownWakePending, SignalPending}
 
 module _ {C : Type 0} where
   -- nobody is asleep with its own latch set, unless a wake is pending
@@ -26,6 +26,10 @@ module _ {C : Type 0} where
   -- nobody is asleep in a wait that a shutdown ends with the shutdown word stored, unless a wake is pending
   abbrev pub NoShutdownIsSleptThrough : Size → WaitState C → Type 0
   NoShutdownIsSleptThrough z s = (id p : ℕ) (v : WaitView C) → get_elem? s.views id ≡ maybe.some v → v.own ≡ Some p → SleepsTillShutdown v → slice_index s.words (shut_at z) ≡ 1 → ShutdownWakePending p s
+
+  -- A backend with a target that is off its list was signalled. Where it hasn't reset its latch outside of a sleep since it was listed, it isn't asleep, unless a wake is pending, or who signalled it has still to set its latch
+  abbrev pub NoSignalIsSleptThrough : WaitState C → Type 0
+  NoSignalIsSleptThrough s = (id p c : ℕ) (v : WaitView C) → get_elem? s.views id ≡ maybe.some v → v.own ≡ Some p → v.target ≡ Some c → v.heeds ≡ true → listed_on p c s ≡ 0 → IsAsleep v → LatchWakePending p s ⊎ SignalPending p s
 
   -- what stays of a seat that was joined into another
   pub record IsLeftOver (u : WaitView C) : Type 0 where

@@ -7,6 +7,8 @@ use Rattle.wait_core.specs.Words.{byte_at}
 use Rattle.wait_core.specs.Machine.{WaitState, top}
 use Rattle.wait_core.specs.Seating.{standing_of}
 use Rattle.wait_core.specs.Places.{is_asleep, tells, stops, count_of}
+use Rattle.seat_roster.specs.Totals.{total}
+use Rattle.wait_core.specs.Stances.{stance_of, has_popped}
 
 module _ {C : Type 0} where
   -- the seat's last step was a look at its wake byte that read 0
@@ -24,3 +26,7 @@ module _ {C : Type 0} where
   -- the wake byte of p is 1, or somebody who shuts down has still to store it
   abbrev pub ShutdownWakePending : ℕ → WaitState C → Type 0
   ShutdownWakePending p s = 1 ≤ slice_index s.words (byte_at p) + count_of (stops p) (map standing_of s.views)
+
+  -- somebody popped p off a list, and hasn't found its latch set yet nor set it
+  abbrev pub SignalPending : ℕ → WaitState C → Type 0
+  SignalPending p s = 1 ≤ total (has_popped p) (map stance_of s.views)

@@ -12,7 +12,7 @@ ghost use Rattle.wait_core.specs.Seating.{doings_of, party_of};
 ghost use Rattle.wait_core.specs.WordsAreMade.{WordsAreMade};
 ghost use Rattle.wait_core.specs.Rule.{Rule};
 ghost use Rattle.wait_core.specs.Runs.{Deed, Steps, Runs, after_client};
-ghost use Rattle.wait_core.specs.Promises.{NoSetLatchIsSleptOn, NoShutdownIsSleptThrough, LastHoldsAlone, IsOpening, IsReached, SentinelStandsBehind, BroadcastWakesAll};
+ghost use Rattle.wait_core.specs.Promises.{NoSetLatchIsSleptOn, NoShutdownIsSleptThrough, NoSignalIsSleptThrough, LastHoldsAlone, IsOpening, IsReached, SentinelStandsBehind, BroadcastWakesAll};
 
 use crate::party::Party;
 use crate::view::Size;
@@ -49,6 +49,13 @@ pub fn set_latch_wakes<P: Party>(party: &P, size: Size, phase: u64)
 pub fn shutdown_wakes<P: Party>(party: &P, size: Size, phase: u64)
     ensures states { (s : WaitState P.View) → Rule (P.holds party.now) size phase (P.word_count party.now) s → NoShutdownIsSleptThrough size s }
     ensures runs { (s : WaitState P.View) → IsReached (P.does party.now) (P.may party.now) (P.after party.now) (P.first party.now) P.spent P.both (P.opens party.now) (P.holds party.now) (P.word_count party.now) size phase s → NoShutdownIsSleptThrough size s }
+{}
+
+/// Whatever happens to a new table, who waits on a condition and was signalled isn't asleep, unless
+/// a wake is pending or its latch is still to be set.
+pub fn signal_wakes<P: Party>(party: &P, size: Size, phase: u64)
+    ensures states { (s : WaitState P.View) → Rule (P.holds party.now) size phase (P.word_count party.now) s → NoSignalIsSleptThrough s }
+    ensures runs { (s : WaitState P.View) → IsReached (P.does party.now) (P.may party.now) (P.after party.now) (P.first party.now) P.spent P.both (P.opens party.now) (P.holds party.now) (P.word_count party.now) size phase s → NoSignalIsSleptThrough s }
 {}
 
 /// Whoever stood on a condition's list at the first take of a broadcast has left it since, by a
