@@ -1,20 +1,20 @@
 -- Seats counted by their numbers, and by the list that they have in hand.
-use Rattle.std.proofs.Common.{◌≡◌, ◌≢◌, ℕ, ◌+◌, ◌<◌, ◌≤◌, eqb, Bool, true, false, cond, List, [], ◌∷◌, ◌++◌, map, get_or, set, Option, None, Some, sym, refl, ap, ◌∙◌, subst, arith, eq-eqb, eqb-true, ne_eqb}
+use Rattle.std.proofs.Common.{◌≡◌, ◌≢◌, ℕ, ◌+◌, ◌≤◌, eqb, Bool, true, false, cond, List, [], map, set, Option, None, Some, sym, refl, ap, ◌∙◌, arith, eq-eqb, ne_eqb}
 use mathlib.Core.Logic.{dite}
 use mathlib.Core.Option as maybe
 use native.Mathlib.Decide.{ℕ_discrete}
 use lib.ListN.{get_elem?}
 use Rattle.atomic_table.proofs.Lists.{set_here, set_else}
 use Rattle.seat_roster.specs.Totals.{total}
-use Rattle.seat_roster.specs.Roster.{Numbers, Roster, times, times_in, stands}
-use Rattle.seat_roster.proofs.Totals.{total_set, total_snoc, total_at, total_le, total_map, total_only, at_inside}
+use Rattle.seat_roster.specs.Roster.{Roster, times_in, stands}
+use Rattle.seat_roster.proofs.Totals.{total_set, total_le, total_map, total_only, at_inside}
 use Rattle.seat_roster.proofs.Numbers.{most_one}
 use Rattle.wait_core.specs.declared.view.Kept.{Kept}
 use Rattle.wait_core.specs.declared.view.WaitView.{WaitView}
 use Rattle.wait_core.specs.Machine.{home_of}
 use Rattle.wait_core.specs.Seating.{numbers_of}
-use Rattle.wait_core.specs.Stances.{Hand, Stance, Homes, stance_of, is_just, has_slot, has_list, hand_amount, amount_by, home_amount, amount_on, both_are, belongs_to, heeds_for, has_popped}
-use Rattle.wait_core.proofs.Turns.{in_hand, idle}
+use Rattle.wait_core.specs.Stances.{Hand, Stance, Homes, stance_of, is_just, has_slot, has_list, hand_amount, amount_by, home_amount, amount_on, both_are}
+use Rattle.wait_core.proofs.Turns.{in_hand}
 
 -- 1 where the seat has the number p
 abbrev pub is_own : ℕ → Stance → ℕ
@@ -85,8 +85,8 @@ module _ (homes : Homes) (seats : List Stance) (id : ℕ) (v w : Stance) (at : g
   pub amount_out : (c : ℕ) (k : Kept) → get_elem? homes c ≡ maybe.some (maybe.some k) → v.hand ≡ None → w.hand ≡ in_hand c k.list.items → amount_on f x (set homes c maybe.none) (set seats id w) ≡ amount_on f x homes seats
   amount_out c k home free has = let sum = total_set (amount_by f x) seats id v w at in let had : hand_amount f x v.hand ≡ 0 = ap (hand_amount f x) free in dite (ℕ_discrete x c)
       (λ is. let was : home_amount f x homes ≡ f k.list.items = ap (λ (j : ℕ). home_amount f j homes) is ∙ ap (λ o. f (home_of o).list.items) home in
-        let now : home_amount f x (set homes c maybe.none) ≡ 0 = ap (λ (j : ℕ). home_amount f j (set homes c maybe.none)) is ∙ ap (λ o. f (home_of o).list.items) (set_here homes c maybe.none (at_inside homes c (maybe.some k) home)) ∙ none in
-        let mine : hand_amount f x w.hand ≡ f k.list.items = ap (λ (j : ℕ). hand_amount f j w.hand) is ∙ hand_here f c w.hand k.list.items has in omega arith)
+      let now : home_amount f x (set homes c maybe.none) ≡ 0 = ap (λ (j : ℕ). home_amount f j (set homes c maybe.none)) is ∙ ap (λ o. f (home_of o).list.items) (set_here homes c maybe.none (at_inside homes c (maybe.some k) home)) ∙ none in
+      let mine : hand_amount f x w.hand ≡ f k.list.items = ap (λ (j : ℕ). hand_amount f j w.hand) is ∙ hand_here f c w.hand k.list.items has in omega arith)
       (λ ne. let mine = hand_else f x c w.hand k.list.items has ne in let now : home_amount f x (set homes c maybe.none) ≡ home_amount f x homes = ap (λ o. f (home_of o).list.items) (set_else homes c x maybe.none ne) in omega arith)
 
   -- the list in hand goes home, as another

@@ -1,5 +1,5 @@
 -- A sentinel stays behind those who were on the list before it, for as long as they are.
-use Rattle.std.proofs.Common.{◌≡◌, ◌≢◌, ◌⊎◌, ℕ, ◌+◌, ◌<◌, ◌≤◌, eqb, Bool, true, false, cond, List, [], ◌∷◌, ◌++◌, length, get_or, set, Option, None, Some, sym, refl, ap, ◌∙◌, subst, ⊎_elim, inl, inr, arith, ne_eqb}
+use Rattle.std.proofs.Common.{◌≡◌, ◌≢◌, ◌⊎◌, ℕ, ◌+◌, ◌<◌, ◌≤◌, Bool, true, false, cond, List, [], ◌∷◌, ◌++◌, length, set, None, Some, sym, refl, ap, ◌∙◌, subst, ⊎_elim, inl, inr, arith, ne_eqb}
 use mathlib.Core.Logic.{dite}
 use mathlib.Core.Option as maybe
 use native.Mathlib.Decide.{ℕ_discrete}
@@ -7,16 +7,15 @@ use lib.ListN.{get_elem?}
 use Rattle.wait_core.specs.declared.view.Frame.TheVariants.{Rousing}
 use Rattle.wait_core.specs.declared.view.Kept.{Kept}
 use Rattle.wait_core.specs.declared.view.Size.{Size}
-use Rattle.seat_roster.specs.Totals.{total}
 use Rattle.seat_roster.specs.Roster.{times}
 use Rattle.wait_core.specs.Words.{client_base}
 use Rattle.wait_core.specs.Lists.{is_listed, is_empty, rest_of, without, precedes}
-use Rattle.wait_core.specs.Jobs.{left_list, goes_on, rouses, rouses_on}
+use Rattle.wait_core.specs.Jobs.{rouses, rouses_on}
 use Rattle.wait_core.specs.Machine.{Place}
-use Rattle.wait_core.specs.Stances.{Stance, Homes, is_just, hand_at, sentinel_at, pops_at, times_on, order_on, belongs_to}
+use Rattle.wait_core.specs.Stances.{Stance, Homes, is_just, hand_at, sentinel_at, pops_at, times_on, order_on}
 use Rattle.wait_core.specs.TargetsAreListed.{TargetsAreListed}
-use Rattle.wait_core.proofs.Lists.{head_here, head_else, times_last, times_joined, times_gone, not_listed, listed_there, before_last, behind_joined, precedes_without, precedes_popped, stands_there, stands_behind}
-use Rattle.wait_core.proofs.Turns.{in_hand, StillBelongs, Sends, returns, stays_listed, joins, leaves, pops, signs, ends, Turn, stays, reaches, resets, takes, frees}
+use Rattle.wait_core.proofs.Lists.{head_here, head_else, times_last, times_gone, not_listed, before_last, behind_joined, precedes_without, precedes_popped, stands_there, stands_behind}
+use Rattle.wait_core.proofs.Turns.{in_hand, Sends, returns, stays_listed, joins, leaves, pops, signs, ends, Turn, stays, reaches, resets, takes, frees}
 use Rattle.wait_core.proofs.Owning.{amount_same, amount_out, amount_sent, amount_apart, amount_held, Alone, own_counts, counts_most}
 use Rattle.wait_core.proofs.SpinInOneHand.{Hands, SpinsAreFlags, one_hand, home_out, sends_hand}
 use Rattle.wait_core.proofs.TargetsAreListed.{sends_listed}
@@ -44,8 +43,8 @@ module _ (p q o c : ℕ) (found left : List ℕ) (v w : Stance) (own : v.own ≡
   sends_order (pops x b e still is) = popped_order x e (ap (λ (u : Stance). u.own) is) (λ same. inr (ap (λ (u : Stance). u.pops) is ∙ ap Some same))
   sends_order (signs x rest e f none quiet is) = dite (ℕ_discrete x p)
       (λ (same : x ≡ p). let count = ap (times p) e in let head = head_here p x same in let no = ap (is_just c) none in
-        let ne : o ≢ p = λ (h : o ≡ p). let a : times o found ≡ times p found = ap (λ (n : ℕ). times n found) h in omega arith in
-        let last = times_last p o rest ne in let gone = ap (times p) f in inl (omega arith, inr (ap (λ (u : Stance). u.pops) is ∙ ap Some same)))
+      let ne : o ≢ p = λ (h : o ≡ p). let a : times o found ≡ times p found = ap (λ (n : ℕ). times n found) h in omega arith in
+      let last = times_last p o rest ne in let gone = ap (times p) f in inl (omega arith, inr (ap (λ (u : Stance). u.pops) is ∙ ap Some same)))
       (λ (ne : x ≢ p). let a = ap (precedes p q) e in let b = precedes_popped p q x rest ne in let d = behind_joined p q o rest in let g = ap (precedes p q) f in inr (omega arith))
   sends_order (ends e here quiet is) = popped_order o e (ap (λ (u : Stance). u.own) is) (λ same. inl (ap (λ (u : Stance). u.own) is ∙ (own ∙ ap Some same)))
 
@@ -65,9 +64,12 @@ pub rebroadcast_goes : (p q c : ℕ) (list : List ℕ) → p ≢ q → times p l
 rebroadcast_goes p q c [] ne once alone there = absurd (omega arith)
 rebroadcast_goes p q c (x ∷ rest) ne once alone there = dite (ℕ_discrete x q)
     (λ (is : x ≡ q). let same = precedes_popped p q x rest (λ e. ne (sym e ∙ is)) in let more = stands_behind p q rest (omega arith) in let head = head_here q x is in absurd (omega arith))
-    (λ (other : x ≢ q). subst (λ (b : Bool). Goes p q c rest (cond b [] (Rousing c x (is_listed q rest) ∷ []))) (sym (ne_eqb x q other)) (refl, dite (ℕ_discrete x p)
-      (λ (is : x ≡ p). let head = head_here p x is in inl (omega arith, ap Some is))
-      (λ (apart : x ≢ p). let same = precedes_popped p q x rest apart in inr (by_test (is_listed q rest) refl (stands_behind p q rest (omega arith)), omega arith))))
+    (λ (other : x ≢ q). subst (λ (b : Bool). Goes p q c rest (cond b [] (Rousing c x (is_listed q rest) ∷ []))) (sym (ne_eqb x q other)) (
+      refl,
+      dite (ℕ_discrete x p)
+          (λ (is : x ≡ p). let head = head_here p x is in inl (omega arith, ap Some is))
+          (λ (apart : x ≢ p). let same = precedes_popped p q x rest apart in inr (by_test (is_listed q rest) refl (stands_behind p q rest (omega arith)), omega arith)),
+    ))
   where
     by_test : (b : Bool) → is_listed q rest ≡ b → 1 ≤ times q rest → sentinel_at (Rousing c x b ∷ []) ≡ Some c
     by_test true e some = refl
@@ -112,8 +114,8 @@ module _ (z : Size) (words : List ℕ) (homes : Homes) (seats : List Stance) (wi
       (let a = amount_out homes seats id v w at (precedes p q) refl c d k home free (ap (λ (u : Stance). u.hand) is) in omega arith))
   order_turn apart (frees o d found k few inside own at_d to has nobody goes sends) = λ there. dite (ℕ_discrete c d)
       (λ (same : c ≡ d). let s : Sends o c found k.list.items v w = subst (λ (j : ℕ). Sends o j found k.list.items v w) (sym same) sends in
-        sent o found k (subst (λ (j : ℕ). j < z.cvs + z.bars) (sym same) inside) own (subst (λ (j : ℕ). v.hand ≡ in_hand j found) (sym same) has) (subst (λ (j : ℕ). after ≡ set homes j (maybe.some k)) (sym same) goes)
-        (sends_hand o d found k.list.items v w sends) there (λ once mine behind. sends_order p q o c found k.list.items v w own (λ (e : o ≡ q). let none = apart (own ∙ ap Some e) in absurd (cc)) once mine behind s)
-        (sends_listed o d found k.list.items v w sends).own)
+      sent o found k (subst (λ (j : ℕ). j < z.cvs + z.bars) (sym same) inside) own (subst (λ (j : ℕ). v.hand ≡ in_hand j found) (sym same) has) (subst (λ (j : ℕ). after ≡ set homes j (maybe.some k)) (sym same) goes)
+      (sends_hand o d found k.list.items v w sends) there (λ once mine behind. sends_order p q o c found k.list.items v w own (λ (e : o ≡ q). let none = apart (own ∙ ap Some e) in absurd (cc)) once mine behind s)
+      (sends_listed o d found k.list.items v w sends).own)
       (λ (ne : c ≢ d). inr (subst (λ (h : Homes). 1 ≤ order_on p q c h (set seats id w)) (sym goes)
-        (let a = amount_apart homes seats id v w at (precedes p q) refl c d found (maybe.some k) has (sends_hand o d found k.list.items v w sends) ne in omega arith)))
+      (let a = amount_apart homes seats id v w at (precedes p q) refl c d found (maybe.some k) has (sends_hand o d found k.list.items v w sends) ne in omega arith)))

@@ -1,5 +1,5 @@
 -- Each kind of step, as what it does to spin words, latches and lists.
-use Rattle.std.proofs.Common.{◌≡◌, ◌⊎◌, ℕ, ◌+◌, ◌<◌, ◌≤◌, eqb, Bool, true, false, cond, List, [], ◌∷◌, ◌++◌, get_or, set, Option, None, Some, sym, refl, ap, ◌∙◌, subst, inl, inr, arith, eqb-true}
+use Rattle.std.proofs.Common.{◌≡◌, ℕ, ◌+◌, ◌<◌, ◌≤◌, eqb, Bool, true, false, cond, List, [], ◌∷◌, ◌++◌, get_or, set, Option, None, Some, sym, refl, ap, ◌∙◌, subst, inl, inr, arith, eqb-true}
 use Rattle.std.proofs.lemmas.Bool.{eqb-false}
 use mathlib.Core.Option as maybe
 use lib.ListN.{get_elem?}
@@ -21,13 +21,13 @@ use Rattle.wait_core.specs.declared.view.Record.{Record}
 use Rattle.wait_core.specs.declared.view.Size.{Size}
 use Rattle.wait_core.specs.declared.view.WaitView.{WaitView}
 use Rattle.wait_core.specs.Words.{set_at, may_at, byte_at, shut_at, slot_of, spin_at}
-use Rattle.wait_core.specs.Lists.{is_listed, is_empty, rest_of}
+use Rattle.wait_core.specs.Lists.{is_listed}
 use Rattle.wait_core.specs.Jobs.{condition_of, spot_of, left_list, target_after, heeds_after, resumed, goes_on}
-use Rattle.wait_core.specs.Machine.{Place, top, outer, number_of, word_of, becomes, watching, begun, reloaded, marked, woken, looked, drained, reset, entered, as_kept, taken, spun, place_then, target_then, heeds_then, left_at, home_of, home_in, slot_number, act_of, carried, SetsLatchOf, WaitsForLatch, IsInside, MayBegin, BeginsLoad, takes_first, spot_for, MayReload, MayMark, MayWake, MayLook, MayDrain, MayReset, MayTake, MaySpin, MayFree, IsSpot, Permits, next_with}
+use Rattle.wait_core.specs.Machine.{Place, top, outer, number_of, word_of, becomes, begun, reloaded, marked, woken, looked, drained, reset, entered, as_kept, taken, spun, place_then, target_then, heeds_then, home_of, home_in, slot_number, act_of, carried, SetsLatchOf, WaitsForLatch, IsInside, MayBegin, BeginsLoad, takes_first, spot_for, MayReload, MayMark, MayWake, MayLook, MayDrain, MayReset, MayTake, MaySpin, MayFree, IsSpot, Permits, next_with}
 use Rattle.wait_core.specs.Fits.{BehindSet, BehindWait, BehindCancel, JobFits, Fits}
-use Rattle.wait_core.specs.Stances.{Hand, Stance, Homes, hand_at, belongs_at, heeds_at, pops_at, stance_of}
+use Rattle.wait_core.specs.Stances.{Stance, Homes, hand_at, belongs_at, heeds_at, pops_at, stance_of}
 use Rattle.wait_core.proofs.Lists.{listed_there, not_listed}
-use Rattle.wait_core.proofs.Turns.{in_hand, IsStill, reads, latches, marks, wakes, shuts, Sends, returns, stays_listed, joins, leaves, pops, signs, ends, Turn, stays, reaches, resets, takes, frees, idle}
+use Rattle.wait_core.proofs.Turns.{reads, latches, marks, wakes, shuts, Sends, returns, stays_listed, joins, leaves, pops, signs, ends, Turn, stays, reaches, resets, takes, frees, idle}
 
 -- the stance of a seat with this number and this target, which heeds its signal or not, at this place
 abbrev pub stance : Option ℕ → Option ℕ → Bool → Place → Stance
