@@ -78,6 +78,10 @@ is_rebroadcast : (j : Job) (c : ℕ) → sentinel_of j ≡ Some c → j ≡ job.
 is_rebroadcast (job.Rebroadcast d) c e = let same : d ≡ c = cc in ap job.Rebroadcast same
 is_rebroadcast j c e = absurd (cc)
 
+no_target : (t o : Option ℕ) → target_or t o ≡ None → t ≡ None
+no_target (Some c) o e = absurd (cc)
+no_target None o e = refl
+
 -- where no list is in hand what the seat belongs to stays
 belongs_stays : (z : Size) (words : List ℕ) (homes after : Homes) (i x : ℕ) (v w : Stance) → v.hand ≡ None → Turn z words homes after i x v w → w.belongs ≡ v.belongs
 belongs_stays z words homes after i x v w none (turn.stays still stay is) = ap (λ (u : Stance). u.belongs) is
@@ -262,7 +266,7 @@ module _ {C : Type 0} (holds : List ℕ → List (PartyView C) → List ℕ → 
                 gone = subst (λ (l : List Stance). times_on p c (moved z s id b.view q k).homes l ≡ 0) (sym seen) off.gone;
                 view = w;
                 at = set_there s.views id b.view w b.at;
-                by = off.by;
+                by = ⊎_elim (λ t. inl (t.0, no_target _ _ t.1)) (λ popped. inr popped) off.by;
               }) (λ behind. inr (inr record {
                 view = w;
                 at = set_there s.views id b.view w b.at;
@@ -283,7 +287,7 @@ module _ {C : Type 0} (holds : List ℕ → List (PartyView C) → List ℕ → 
             gone = subst (λ (l : List Stance). times_on p c (moved z s j u o k).homes l ≡ 0) (sym seen) off.gone;
             view = w;
             at = set_there s.views j u w at;
-            by = off.by;
+            by = ⊎_elim (λ t. inl (t.0, no_target _ _ t.1)) (λ popped. inr popped) off.by;
           }) (λ behind. inr (inr record {
             view = b.view;
             at = set_else s.views j id w (λ e. apart (sym e)) ∙ b.at;

@@ -20,15 +20,19 @@ use Rattle.wait_core.proofs.Owning.{amount_same, amount_out, amount_sent, amount
 use Rattle.wait_core.proofs.SpinInOneHand.{Hands, SpinsAreFlags, one_hand, home_out, sends_hand}
 use Rattle.wait_core.proofs.TargetsAreListed.{sends_listed}
 
+-- p left a list by a step of its own, and belongs to none since; or this seat has popped it
+abbrev pub LeftBy : ℕ → Stance → Type 0
+LeftBy p w = ((w.own ≡ Some p) × (w.belongs ≡ None)) ⊎ (w.pops ≡ Some p)
+
 -- LISTS. The free of another than q takes p off the list, or leaves it before q
 abbrev pub IsOff : ℕ → ℕ → List ℕ → Stance → Type 0
-IsOff p o left w = (times p left ≡ 0) × ((w.own ≡ Some p) ⊎ (w.pops ≡ Some p))
+IsOff p o left w = (times p left ≡ 0) × LeftBy p w
 
 module _ (p q o c : ℕ) (found left : List ℕ) (v w : Stance) (own : v.own ≡ Some o) (apart : o ≢ q) (once : times p found ≤ 1) (mine : times o found ≤ is_just c v.belongs) (there : 1 ≤ precedes p q found) where
   same_order : left ≡ found → IsOff p o left w ⊎ (1 ≤ precedes p q left)
   same_order e = inr (subst (λ (l : List ℕ). 1 ≤ precedes p q l) (sym e) there)
 
-  popped_order : (x : ℕ) → found ≡ x ∷ left → w.own ≡ v.own → (x ≡ p → (w.own ≡ Some p) ⊎ (w.pops ≡ Some p)) → IsOff p o left w ⊎ (1 ≤ precedes p q left)
+  popped_order : (x : ℕ) → found ≡ x ∷ left → w.own ≡ v.own → (x ≡ p → LeftBy p w) → IsOff p o left w ⊎ (1 ≤ precedes p q left)
   popped_order x e still by = dite (ℕ_discrete x p)
       (λ (is : x ≡ p). let count = ap (times p) e in let head = head_here p x is in inl (omega arith, by is))
       (λ (ne : x ≢ p). let a = ap (precedes p q) e in let b = precedes_popped p q x left ne in inr (omega arith))
@@ -38,7 +42,7 @@ module _ (p q o c : ℕ) (found left : List ℕ) (v w : Stance) (own : v.own ≡
   sends_order (stays_listed h e some is) = same_order e
   sends_order (joins e none is) = let a = behind_joined p q o found in let b = ap (precedes p q) e in inr (omega arith)
   sends_order (leaves e here is) = dite (ℕ_discrete p o)
-      (λ (same : p ≡ o). let gone : times p left ≡ 0 = ap (times p) e ∙ (ap (λ (n : ℕ). times n (without o found)) same ∙ times_gone o found) in inl (gone, inl (ap (λ (u : Stance). u.own) is ∙ (own ∙ ap Some (sym same)))))
+      (λ (same : p ≡ o). let gone : times p left ≡ 0 = ap (times p) e ∙ (ap (λ (n : ℕ). times n (without o found)) same ∙ times_gone o found) in inl (gone, inl (ap (λ (u : Stance). u.own) is ∙ (own ∙ ap Some (sym same)), ap (λ (u : Stance). u.belongs) is)))
       (λ (ne : p ≢ o). let a = ap (precedes p q) e in let b = precedes_without p q o found ne (λ e. apart (sym e)) in inr (omega arith))
   sends_order (pops x b e still is) = popped_order x e (ap (λ (u : Stance). u.own) is) (λ same. inr (ap (λ (u : Stance). u.pops) is ∙ ap Some same))
   sends_order (signs x rest e f none quiet is) = dite (ℕ_discrete x p)
@@ -46,7 +50,7 @@ module _ (p q o c : ℕ) (found left : List ℕ) (v w : Stance) (own : v.own ≡
       let ne : o ≢ p = λ (h : o ≡ p). let a : times o found ≡ times p found = ap (λ (n : ℕ). times n found) h in omega arith in
       let last = times_last p o rest ne in let gone = ap (times p) f in inl (omega arith, inr (ap (λ (u : Stance). u.pops) is ∙ ap Some same)))
       (λ (ne : x ≢ p). let a = ap (precedes p q) e in let b = precedes_popped p q x rest ne in let d = behind_joined p q o rest in let g = ap (precedes p q) f in inr (omega arith))
-  sends_order (ends e here quiet is) = popped_order o e (ap (λ (u : Stance). u.own) is) (λ same. inl (ap (λ (u : Stance). u.own) is ∙ (own ∙ ap Some same)))
+  sends_order (ends e here quiet is) = popped_order o e (ap (λ (u : Stance). u.own) is) (λ same. inl (ap (λ (u : Stance). u.own) is ∙ (own ∙ ap Some same), ap (λ (u : Stance). u.belongs) is))
 
 -- THE BROADCASTER. Its own free takes p off the list, or the sentinel is behind p
 abbrev pub Goes : ℕ → ℕ → ℕ → List ℕ → Place → Type 0
@@ -82,7 +86,7 @@ module _ (z : Size) (words : List ℕ) (homes : Homes) (seats : List Stance) (wi
   pub record LeavesList : Type 0 where
     pub was : 1 ≤ times_on p c homes seats
     pub gone : times_on p c after (set seats id w) ≡ 0
-    pub by : (w.own ≡ Some p) ⊎ (w.pops ≡ Some p)
+    pub by : LeftBy p w
 
   abbrev Follows : Type 0
   Follows = LeavesList ⊎ (1 ≤ order_on p q c after (set seats id w))
@@ -92,7 +96,7 @@ module _ (z : Size) (words : List ℕ) (homes : Homes) (seats : List Stance) (wi
 
   -- the list of c goes home
   sent : (o : ℕ) (found : List ℕ) (k : Kept) → c < z.cvs + z.bars → v.own ≡ Some o → v.hand ≡ in_hand c found → after ≡ set homes c (maybe.some k) → w.hand ≡ None → 1 ≤ order_on p q c homes seats
-      → (times p found ≤ 1 → times o found ≤ is_just c v.belongs → 1 ≤ precedes p q found → ((times p k.list.items ≡ 0) × ((w.own ≡ Some p) ⊎ (w.pops ≡ Some p))) ⊎ (1 ≤ precedes p q k.list.items)) → w.own ≡ v.own → Follows
+      → (times p found ≤ 1 → times o found ≤ is_just c v.belongs → 1 ≤ precedes p q found → ((times p k.list.items ≡ 0) × LeftBy p w) ⊎ (1 ≤ precedes p q k.list.items)) → w.own ≡ v.own → Follows
   sent o found k inside own has goes free there f still =
       let out = home_out z words homes seats wide flags hands id c v found at inside has in let one = one_hand z words homes seats wide flags hands c inside in
       let count = amount_held (times p) refl homes seats id c v found at one out has in let mine = amount_held (times o) refl homes seats id c v found at one out has in
@@ -100,7 +104,7 @@ module _ (z : Size) (words : List ℕ) (homes : Homes) (seats : List Stance) (wi
       let most = counts_most seats p c (λ (u : Stance). u.belongs) alone in let low = listed p c inside in let own_low = listed o c inside in let counted = own_counts seats alone id o v w at own still (λ (u : Stance). u.belongs) c in
       let moved = amount_sent homes seats id v w at (times p) refl c c found k out has free refl in let turned = amount_sent homes seats id v w at (precedes p q) refl c c found k out has free refl in
       let some = stands_there p q found (omega arith) in
-      ⊎_elim (λ (t : (times p k.list.items ≡ 0) × ((w.own ≡ Some p) ⊎ (w.pops ≡ Some p))). let none = t.0 in inl record {
+      ⊎_elim (λ (t : (times p k.list.items ≡ 0) × LeftBy p w). let none = t.0 in inl record {
         was = omega arith;
         gone = subst (λ (h : Homes). times_on p c h (set seats id w) ≡ 0) (sym goes) (omega arith);
         by = t.1;
