@@ -225,7 +225,7 @@ module _ {C : Type 0} (holds : List ℕ → List (PartyView C) → List ℕ → 
 
   module _ (id q c p : ℕ) (list : List ℕ) where
     -- who was found at the first take isn't the broadcaster
-    pub first_apart : (a : AtFirstTake id q c list s) → 1 ≤ times p list → p ≢ q
+    first_apart : (a : AtFirstTake id q c list s) → 1 ≤ times p list → p ≢ q
     first_apart a some same =
         let fit = subst (Fits z.cvs a.view.target) a.place (fits id q a.view a.at a.own) in let few = fit.0 in
         let none = not_mine id q a.view a.at a.own (job.Broadcast c) list a.found a.rest a.place (omega arith) (λ i. target_or (fit.1 i) (sentinel_at (a.place i))) in

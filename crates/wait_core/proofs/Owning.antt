@@ -34,7 +34,7 @@ just_most x (Some y) = by_test (eqb y x)
     by_test true = omega arith
     by_test false = omega arith
 
-pub both_here : (p x : ℕ) (own o : Option ℕ) → own ≡ Some p → both_are p x own o ≡ is_just x o
+both_here : (p x : ℕ) (own o : Option ℕ) → own ≡ Some p → both_are p x own o ≡ is_just x o
 both_here p x own o is = ap (λ (n : Option ℕ). both_are p x n o) is ∙ ap (λ (b : Bool). cond {A = ℕ} b (is_just x o) 0) (eq-eqb p p refl)
 
 pub both_else : (p q x : ℕ) (own o : Option ℕ) → own ≡ Some q → q ≢ p → both_are p x own o ≡ 0
@@ -136,9 +136,6 @@ module _ (seats : List Stance) (alone : Alone seats) (id o : ℕ) (v w : Stance)
   pub else_after : (p : ℕ) → o ≢ p → total (counts p) (set seats id w) ≡ total (counts p) seats
   else_after p ne = let sum = total_set (counts p) seats id v w at in let was = both_else p o x v.own (f v) own ne in let now = both_else p o x w.own (f w) (still ∙ own) ne in omega arith
 
--- a number that no seat has
-pub nobody_counts : (seats : List Stance) (p x : ℕ) (f : Stance → Option ℕ) → total (is_own p) seats ≡ 0 → total (λ (u : Stance). both_are p x u.own (f u)) seats ≡ 0
-nobody_counts seats p x f none = let le = total_le (λ (u : Stance). both_are p x u.own (f u)) (is_own p) seats (λ i u e. both_most p x u.own (f u)) in omega arith
-
+-- of one number one seat counts
 pub counts_most : (seats : List Stance) (p x : ℕ) (f : Stance → Option ℕ) → Alone seats → total (λ (u : Stance). both_are p x u.own (f u)) seats ≤ 1
 counts_most seats p x f alone = let le = total_le (λ (u : Stance). both_are p x u.own (f u)) (is_own p) seats (λ i u e. both_most p x u.own (f u)) in let one = alone p in omega arith

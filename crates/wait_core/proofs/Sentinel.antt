@@ -25,32 +25,32 @@ abbrev pub LeftBy : ℕ → Stance → Type 0
 LeftBy p w = ((w.own ≡ Some p) × (w.belongs ≡ None)) ⊎ (w.pops ≡ Some p)
 
 -- LISTS. The free of another than q takes p off the list, or leaves it before q
-abbrev pub IsOff : ℕ → ℕ → List ℕ → Stance → Type 0
-IsOff p o left w = (times p left ≡ 0) × LeftBy p w
+abbrev IsOff : ℕ → List ℕ → Stance → Type 0
+IsOff p left w = (times p left ≡ 0) × LeftBy p w
 
 module _ (p q o c : ℕ) (found left : List ℕ) (v w : Stance) (own : v.own ≡ Some o) (apart : o ≢ q) (once : times p found ≤ 1) (mine : times o found ≤ is_just c v.belongs) (there : 1 ≤ precedes p q found) where
-  same_order : left ≡ found → IsOff p o left w ⊎ (1 ≤ precedes p q left)
+  same_order : left ≡ found → IsOff p left w ⊎ (1 ≤ precedes p q left)
   same_order e = inr (subst (λ (l : List ℕ). 1 ≤ precedes p q l) (sym e) there)
 
-  popped_order : (x : ℕ) → found ≡ x ∷ left → w.own ≡ v.own → (x ≡ p → LeftBy p w) → IsOff p o left w ⊎ (1 ≤ precedes p q left)
-  popped_order x e still by = dite (ℕ_discrete x p)
+  popped_order : (x : ℕ) → found ≡ x ∷ left → (x ≡ p → LeftBy p w) → IsOff p left w ⊎ (1 ≤ precedes p q left)
+  popped_order x e by = dite (ℕ_discrete x p)
       (λ (is : x ≡ p). let count = ap (times p) e in let head = head_here p x is in inl (omega arith, by is))
       (λ (ne : x ≢ p). let a = ap (precedes p q) e in let b = precedes_popped p q x left ne in inr (omega arith))
 
-  sends_order : Sends o c found left v w → IsOff p o left w ⊎ (1 ≤ precedes p q left)
+  sends_order : Sends o c found left v w → IsOff p left w ⊎ (1 ≤ precedes p q left)
   sends_order (returns b e still is) = same_order e
   sends_order (stays_listed h e some is) = same_order e
   sends_order (joins e none is) = let a = behind_joined p q o found in let b = ap (precedes p q) e in inr (omega arith)
   sends_order (leaves e here is) = dite (ℕ_discrete p o)
       (λ (same : p ≡ o). let gone : times p left ≡ 0 = ap (times p) e ∙ (ap (λ (n : ℕ). times n (without o found)) same ∙ times_gone o found) in inl (gone, inl (ap (λ (u : Stance). u.own) is ∙ (own ∙ ap Some (sym same)), ap (λ (u : Stance). u.belongs) is)))
       (λ (ne : p ≢ o). let a = ap (precedes p q) e in let b = precedes_without p q o found ne (λ e. apart (sym e)) in inr (omega arith))
-  sends_order (pops x b e still is) = popped_order x e (ap (λ (u : Stance). u.own) is) (λ same. inr (ap (λ (u : Stance). u.pops) is ∙ ap Some same))
+  sends_order (pops x b e still is) = popped_order x e (λ same. inr (ap (λ (u : Stance). u.pops) is ∙ ap Some same))
   sends_order (signs x rest e f none quiet is) = dite (ℕ_discrete x p)
       (λ (same : x ≡ p). let count = ap (times p) e in let head = head_here p x same in let no = ap (is_just c) none in
       let ne : o ≢ p = λ (h : o ≡ p). let a : times o found ≡ times p found = ap (λ (n : ℕ). times n found) h in omega arith in
       let last = times_last p o rest ne in let gone = ap (times p) f in inl (omega arith, inr (ap (λ (u : Stance). u.pops) is ∙ ap Some same)))
       (λ (ne : x ≢ p). let a = ap (precedes p q) e in let b = precedes_popped p q x rest ne in let d = behind_joined p q o rest in let g = ap (precedes p q) f in inr (omega arith))
-  sends_order (ends e here quiet is) = popped_order o e (ap (λ (u : Stance). u.own) is) (λ same. inl (ap (λ (u : Stance). u.own) is ∙ (own ∙ ap Some same), ap (λ (u : Stance). u.belongs) is))
+  sends_order (ends e here quiet is) = popped_order o e (λ same. inl (ap (λ (u : Stance). u.own) is ∙ (own ∙ ap Some same), ap (λ (u : Stance). u.belongs) is))
 
 -- THE BROADCASTER. Its own free takes p off the list, or the sentinel is behind p
 abbrev pub Goes : ℕ → ℕ → ℕ → List ℕ → Place → Type 0

@@ -91,7 +91,7 @@ sends_signals p c found left v w (ends e here quiet is) = record {
 }
 
 -- what a word that is no latch becomes, or one that is stored 1, clears no latch
-pub still_latches : (z : Size) (words : List ℕ) (i x : ℕ) → client_base z ≤ length words → IsStill z words i x → (q : ℕ) → q < z.procs → (get_or (set words i x) (set_at q) 0 ≡ get_or words (set_at q) 0) ⊎ (get_or (set words i x) (set_at q) 0 ≡ 1)
+still_latches : (z : Size) (words : List ℕ) (i x : ℕ) → client_base z ≤ length words → IsStill z words i x → (q : ℕ) → q < z.procs → (get_or (set words i x) (set_at q) 0 ≡ get_or words (set_at q) 0) ⊎ (get_or (set words i x) (set_at q) 0 ≡ 1)
 still_latches z words i x wide (reads e) q below = inl (ap (λ (n : ℕ). get_or (set words i n) (set_at q) 0) e ∙ ap (λ (l : List ℕ). get_or l (set_at q) 0) (set-get_or words i 0))
 still_latches z words i x wide (first e) q below = inl (get_or-set_other words i (set_at q) x 0 (λ is. omega arith))
 still_latches z words i x wide (latches p less e one) q below = dite (ℕ_discrete q p)

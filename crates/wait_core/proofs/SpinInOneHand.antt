@@ -37,7 +37,7 @@ sends_hand p c found left v w (signs q rest e f none quiet is) = ap hand_of is
 sends_hand p c found left v w (ends e here quiet is) = ap hand_of is
 
 -- no spin word changes
-pub still_spins : (z : Size) (words : List ℕ) (i x : ℕ) → IsStill z words i x → (y : ℕ) → y < z.cvs + z.bars → get_or (set words i x) (spin_at z y) 0 ≡ get_or words (spin_at z y) 0
+still_spins : (z : Size) (words : List ℕ) (i x : ℕ) → IsStill z words i x → (y : ℕ) → y < z.cvs + z.bars → get_or (set words i x) (spin_at z y) 0 ≡ get_or words (spin_at z y) 0
 still_spins z words i x (reads e) y below = ap (λ (n : ℕ). get_or (set words i n) (spin_at z y) 0) e ∙ ap (λ (l : List ℕ). get_or l (spin_at z y) 0) (set-get_or words i 0)
 still_spins z words i x (first e) y below = get_or-set_other words i (spin_at z y) x 0 (λ is. omega arith)
 still_spins z words i x (latches q less e one) y below = get_or-set_other words i (spin_at z y) x 0 (λ is. omega arith)

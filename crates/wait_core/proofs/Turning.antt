@@ -318,7 +318,7 @@ module _ (z : Size) (words : List ℕ) (homes : Homes) (o : ℕ) (below : o < z.
             (sym ok.1) (free_turned t h j list found p low fits))
     free_at x after p inside ok fits = absurd ok
 
-    pub turning : (k : WaitStep) (p : Place) → Permits z k (Some o) t p → Fits z.cvs t p → found_at (word_of z o k) ≤ 1 → TurnsAt k t h p
+    turning : (k : WaitStep) (p : Place) → Permits z k (Some o) t p → Fits z.cvs t p → found_at (word_of z o k) ≤ 1 → TurnsAt k t h p
     turning (Sload q (Some c)) p ok fits few = begun_turned t h q c (eqb (found_at (set_at q)) 0) p (λ e. is_one _ few e) ok.0 ok.1 fits
     turning (Sload q None) p ok fits few = seen_turned t h (set_at q) p (reloaded (eqb (found_at (set_at q)) 0) p) (reloaded_same (Some o) t h z.cvs (eqb (found_at (set_at q)) 0) p ok.1 fits)
     turning (Sset q) p ok fits few = at_top (λ (r : Place). Fits z.cvs t r → TurnsAt (Sset q) t h r) p (Setting q) ok.1 (λ f. set_turned t h q (outer p) ok.0 f) fits
