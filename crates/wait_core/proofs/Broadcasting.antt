@@ -1,16 +1,14 @@
 -- Over a run, each who was listed at the first take of a broadcast is taken off the list, or the sentinel is behind it.
-use Rattle.std.proofs.Common.{◌≡◌, ◌≢◌, ◌⊎◌, ℕ, ◌+◌, ◌<◌, ◌≤◌, Bool, true, false, List, [], ◌∷◌, ◌++◌, length, map, get_or, set, Option, None, Some, sym, refl, ap, ◌∙◌, subst, ⊎_elim, inl, inr, arith}
+use Rattle.std.proofs.Common.{◌≡◌, ◌≢◌, ◌⊎◌, ℕ, ◌+◌, ◌<◌, ◌≤◌, true, false, List, [], ◌∷◌, ◌++◌, length, map, get_or, set, Option, None, Some, sym, refl, ap, ◌∙◌, subst, ⊎_elim, inl, inr, arith}
 use mathlib.Core.List.{map-append}
 use mathlib.Core.Logic.{dite}
 use mathlib.Core.Option as maybe
 use native.Mathlib.Decide.{ℕ_discrete}
 use lib.ListN.{get_elem?}
 use lib.Seq.{map-set}
-use Rattle.atomic_table.specs.Table.{stepped, homes_after}
+use Rattle.atomic_table.specs.Table.{stepped}
 use Rattle.atomic_table.proofs.Lists.{at_map, at_longer, set_else}
 use Rattle.wait_core.specs.declared.party.ClientOp.{ClientOp}
-use Rattle.wait_core.specs.declared.step.Spot.{Spot}
-use Rattle.wait_core.specs.declared.step.Spot.TheVariants.{Cv}
 use Rattle.wait_core.specs.declared.step.WaitStep.{WaitStep}
 use Rattle.wait_core.specs.declared.step.WaitStep.TheVariants.{Sload, Sset, Reset, Mstore, Mload, Byte, Look, Drain, Shload, Shstore, Take, Spin, Free}
 use Rattle.wait_core.specs.declared.view.Frame.TheVariants.{Holding}
@@ -24,13 +22,13 @@ use Rattle.wait_core.specs.declared.view.WaitView.{WaitView}
 use Rattle.seat_roster.specs.Roster.{times}
 use Rattle.seat_roster.proofs.Numbers.{one_seat}
 use Rattle.seat_roster.proofs.Stretches.{unseen}
-use Rattle.seat_roster.proofs.Totals.{total_snoc, at_inside, set_there}
-use Rattle.wait_core.specs.Words.{spin_at, slot_of, client_base}
+use Rattle.seat_roster.proofs.Totals.{total_snoc, set_there}
+use Rattle.wait_core.specs.Words.{spin_at, client_base}
 use Rattle.wait_core.specs.Lists.{precedes}
 use Rattle.wait_core.specs.Jobs.{condition_of, spot_of, left_list, target_after, goes_on}
-use Rattle.wait_core.specs.Machine.{WaitState, Place, top, number_of, word_of, becomes, left_at, home_in, slot_number, act_of, carried, freed, target_then, MayBegin, MayFree, Permits, Allowed, next_with, after}
+use Rattle.wait_core.specs.Machine.{WaitState, Place, number_of, word_of, becomes, left_at, home_in, slot_number, act_of, carried, freed, target_then, Permits, next_with, after}
 use Rattle.wait_core.specs.Seating.{numbers_of, standing_of, client_moved, with_drawn, stays, comes, took_in, spent_view}
-use Rattle.wait_core.specs.Fits.{JobFits, Fits}
+use Rattle.wait_core.specs.Fits.{Fits}
 use Rattle.wait_core.specs.Stances.{Stance, Homes, stance_of, is_just, hand_at, sentinel_of, sentinel_at, target_or, pops_at, amount_by, amount_on, times_on, order_on}
 use Rattle.wait_core.specs.Rule.{Rule}
 use Rattle.wait_core.specs.Runs.{Deed, machine, client, draw, seat, join, Deeds, Steps, Runs, Somewhere}
@@ -80,6 +78,10 @@ is_rebroadcast : (j : Job) (c : ℕ) → sentinel_of j ≡ Some c → j ≡ job.
 is_rebroadcast (job.Rebroadcast d) c e = let same : d ≡ c = cc in ap job.Rebroadcast same
 is_rebroadcast j c e = absurd (cc)
 
+no_target : (t o : Option ℕ) → target_or t o ≡ None → t ≡ None
+no_target (Some c) o e = absurd (cc)
+no_target None o e = refl
+
 -- where no list is in hand what the seat belongs to stays
 belongs_stays : (z : Size) (words : List ℕ) (homes after : Homes) (i x : ℕ) (v w : Stance) → v.hand ≡ None → Turn z words homes after i x v w → w.belongs ≡ v.belongs
 belongs_stays z words homes after i x v w none (turn.stays still stay is) = ap (λ (u : Stance). u.belongs) is
@@ -115,7 +117,7 @@ module _ {C : Type 0} (id q c p : ℕ) (list : List ℕ) where
   covers_set s words j u w at own target place same = covers_same s record { words = words; homes = s.homes; views = set s.views j w }
       (λ v there _. dite (ℕ_discrete id j)
       (λ (e : id ≡ j). let is : u ≡ v = maybe.some-injective u v (sym at ∙ (ap (λ (n : ℕ). get_elem? s.views n) (sym e) ∙ there)) in
-        (w, ap (get_elem? (set s.views j w)) e ∙ set_there s.views j u w at, own ∙ ap (λ (x : WaitView C). x.own) is, target ∙ ap (λ (x : WaitView C). x.target) is, place ∙ ap (λ (x : WaitView C). x.place) is))
+      (w, ap (get_elem? (set s.views j w)) e ∙ set_there s.views j u w at, own ∙ ap (λ (x : WaitView C). x.own) is, target ∙ ap (λ (x : WaitView C). x.target) is, place ∙ ap (λ (x : WaitView C). x.place) is))
       (λ (ne : id ≢ j). (v, set_else s.views j id w ne ∙ there, refl, refl, refl)))
       (subst (λ (l : List Stance). 1 ≤ order_on p q c s.homes l) (sym (unseen stance_of s.views j u w at same)))
 
@@ -131,7 +133,7 @@ module _ {C : Type 0} (id q c p : ℕ) (list : List ℕ) where
       (λ (e : id ≡ other). let is : w ≡ v = maybe.some-injective w v (sym at ∙ (ap (λ (n : ℕ). get_elem? s.views n) (sym e) ∙ there)) in absurd (call (sym (ap (λ (x : WaitView C). x.place) is) ∙ still)))
       (λ (ne : id ≢ other). (v, set_else s.views other id left ne ∙ there, refl, refl, refl)))
       (λ behind. subst (λ (l : List Stance). 1 ≤ order_on p q c s.homes l) (sym (map-set stance_of s.views other left))
-        (let a = amount_same s.homes (map stance_of s.views) other (stance_of w) (stance_of left) (at_map stance_of s.views other w at) (precedes p q) refl c (ap hand_at gone ∙ sym (ap hand_at still)) in omega arith))
+      (let a = amount_same s.homes (map stance_of s.views) other (stance_of w) (stance_of left) (at_map stance_of s.views other w at) (precedes p q) refl c (ap hand_at gone ∙ sym (ap hand_at still)) in omega arith))
 
 -- what a list in hand frees as
 left_is : (o : ℕ) (p : Place) (j : Job) (list : List ℕ) (found : Record) (rest : Place) → p ≡ Holding j list found ∷ rest → (left_at o p).list.items ≡ left_list j o list
@@ -223,7 +225,7 @@ module _ {C : Type 0} (holds : List ℕ → List (PartyView C) → List ℕ → 
 
   module _ (id q c p : ℕ) (list : List ℕ) where
     -- who was found at the first take isn't the broadcaster
-    pub first_apart : (a : AtFirstTake id q c list s) → 1 ≤ times p list → p ≢ q
+    first_apart : (a : AtFirstTake id q c list s) → 1 ≤ times p list → p ≢ q
     first_apart a some same =
         let fit = subst (Fits z.cvs a.view.target) a.place (fits id q a.view a.at a.own) in let few = fit.0 in
         let none = not_mine id q a.view a.at a.own (job.Broadcast c) list a.found a.rest a.place (omega arith) (λ i. target_or (fit.1 i) (sentinel_at (a.place i))) in
@@ -264,7 +266,7 @@ module _ {C : Type 0} (holds : List ℕ → List (PartyView C) → List ℕ → 
                 gone = subst (λ (l : List Stance). times_on p c (moved z s id b.view q k).homes l ≡ 0) (sym seen) off.gone;
                 view = w;
                 at = set_there s.views id b.view w b.at;
-                by = off.by;
+                by = ⊎_elim (λ t. inl (t.0, no_target _ _ t.1)) (λ popped. inr popped) off.by;
               }) (λ behind. inr (inr record {
                 view = w;
                 at = set_there s.views id b.view w b.at;
@@ -285,7 +287,7 @@ module _ {C : Type 0} (holds : List ℕ → List (PartyView C) → List ℕ → 
             gone = subst (λ (l : List Stance). times_on p c (moved z s j u o k).homes l ≡ 0) (sym seen) off.gone;
             view = w;
             at = set_there s.views j u w at;
-            by = off.by;
+            by = ⊎_elim (λ t. inl (t.0, no_target _ _ t.1)) (λ popped. inr popped) off.by;
           }) (λ behind. inr (inr record {
             view = b.view;
             at = set_else s.views j id w (λ e. apart (sym e)) ∙ b.at;

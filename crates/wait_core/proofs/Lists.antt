@@ -1,11 +1,11 @@
 -- How often a backend is on a list, and who stands before whom.
-use Rattle.std.proofs.Common.{◌≡◌, ◌≢◌, ℕ, zero, suc, ◌+◌, ◌<◌, ◌≤◌, eqb, Bool, true, false, cond, List, [], ◌∷◌, ◌++◌, length, refl, sym, ap, ◌∙◌, subst, arith, eq-eqb, eqb-true, ne_eqb}
+use Rattle.std.proofs.Common.{◌≡◌, ◌≢◌, ℕ, zero, suc, ◌+◌, ◌<◌, ◌≤◌, eqb, Bool, true, false, cond, List, [], ◌∷◌, ◌++◌, length, refl, sym, ap, ◌∙◌, arith, eq-eqb, eqb-true, ne_eqb}
 use Rattle.std.proofs.lemmas.Bool.{eqb-false}
 use mathlib.Core.Logic.{dite}
 use native.Mathlib.Decide.{ℕ_discrete, dec_lt}
 use Rattle.seat_roster.specs.Roster.{times}
 use Rattle.seat_roster.proofs.Numbers.{times_append}
-use Rattle.wait_core.specs.Lists.{is_listed, rest_of, without, precedes, AllBelow}
+use Rattle.wait_core.specs.Lists.{is_listed, without, precedes, AllBelow}
 
 pub head_here : (p q : ℕ) → q ≡ p → cond {A = ℕ} (eqb q p) 1 0 ≡ 1
 head_here p q is = ap (λ (b : Bool). cond {A = ℕ} b 1 0) (eq-eqb q p is)

@@ -1,24 +1,23 @@
 -- What the table keeps of conditions: each step keeps it, and the moves of seats do.
 use Rattle.std.proofs.Common.{◌≡◌, ℕ, zero, suc, ◌+◌, ◌<◌, ◌≤◌, Bool, List, [], ◌∷◌, ◌++◌, length, map, get_or, set, Option, None, Some, sym, refl, ap, ◌∙◌, subst, arith}
-use Rattle.std.proofs.lemmas.List.{length-map}
 use mathlib.Core.List.{map-append}
 use mathlib.Core.Option as maybe
 use lib.ListN.{get_elem?}
 use lib.Seq.{map-set}
 use Rattle.atomic_table.specs.Table.{homes_after}
-use Rattle.atomic_table.proofs.Lists.{at_map, set_else}
+use Rattle.atomic_table.proofs.Lists.{at_map}
 use Rattle.wait_core.specs.declared.step.WaitStep.{WaitStep}
 use Rattle.wait_core.specs.declared.view.Kept.{Kept}
 use Rattle.wait_core.specs.declared.view.Size.{Size}
 use Rattle.wait_core.specs.declared.view.WaitView.{WaitView}
 use Rattle.seat_roster.specs.Roster.{Roster}
 use Rattle.seat_roster.proofs.Stretches.{unseen}
-use Rattle.wait_core.specs.Words.{set_at, spin_at, client_base}
-use Rattle.wait_core.specs.Machine.{Place, home_of, home_in, slot_number, word_of, becomes, act_of, carried, Permits, next_with}
+use Rattle.wait_core.specs.Words.{spin_at, client_base}
+use Rattle.wait_core.specs.Machine.{Place, home_in, slot_number, word_of, becomes, act_of, carried, Permits, next_with}
 use Rattle.wait_core.specs.Seating.{numbers_of}
 use Rattle.wait_core.specs.Fits.{Fits}
 use Rattle.wait_core.specs.Slots.{AllAsOpened, OpeningSlots}
-use Rattle.wait_core.specs.Stances.{Stance, Homes, stance_of, heeds_at, home_amount}
+use Rattle.wait_core.specs.Stances.{Stance, Homes, stance_of, home_amount}
 use Rattle.wait_core.specs.ListsStand.{ListsStand}
 use Rattle.wait_core.specs.Rule.{Flags}
 use Rattle.seat_roster.specs.Roster.{times}

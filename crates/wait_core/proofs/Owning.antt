@@ -1,20 +1,20 @@
 -- Seats counted by their numbers, and by the list that they have in hand.
-use Rattle.std.proofs.Common.{◌≡◌, ◌≢◌, ℕ, ◌+◌, ◌<◌, ◌≤◌, eqb, Bool, true, false, cond, List, [], ◌∷◌, ◌++◌, map, get_or, set, Option, None, Some, sym, refl, ap, ◌∙◌, subst, arith, eq-eqb, eqb-true, ne_eqb}
+use Rattle.std.proofs.Common.{◌≡◌, ◌≢◌, ℕ, ◌+◌, ◌≤◌, eqb, Bool, true, false, cond, List, [], map, set, Option, None, Some, sym, refl, ap, ◌∙◌, arith, eq-eqb, ne_eqb}
 use mathlib.Core.Logic.{dite}
 use mathlib.Core.Option as maybe
 use native.Mathlib.Decide.{ℕ_discrete}
 use lib.ListN.{get_elem?}
 use Rattle.atomic_table.proofs.Lists.{set_here, set_else}
 use Rattle.seat_roster.specs.Totals.{total}
-use Rattle.seat_roster.specs.Roster.{Numbers, Roster, times, times_in, stands}
-use Rattle.seat_roster.proofs.Totals.{total_set, total_snoc, total_at, total_le, total_map, total_only, at_inside}
+use Rattle.seat_roster.specs.Roster.{Roster, times_in, stands}
+use Rattle.seat_roster.proofs.Totals.{total_set, total_le, total_map, total_only, at_inside}
 use Rattle.seat_roster.proofs.Numbers.{most_one}
 use Rattle.wait_core.specs.declared.view.Kept.{Kept}
 use Rattle.wait_core.specs.declared.view.WaitView.{WaitView}
 use Rattle.wait_core.specs.Machine.{home_of}
 use Rattle.wait_core.specs.Seating.{numbers_of}
-use Rattle.wait_core.specs.Stances.{Hand, Stance, Homes, stance_of, is_just, has_slot, has_list, hand_amount, amount_by, home_amount, amount_on, both_are, belongs_to, heeds_for, has_popped}
-use Rattle.wait_core.proofs.Turns.{in_hand, idle}
+use Rattle.wait_core.specs.Stances.{Hand, Stance, Homes, stance_of, is_just, has_slot, has_list, hand_amount, amount_by, home_amount, amount_on, both_are}
+use Rattle.wait_core.proofs.Turns.{in_hand}
 
 -- 1 where the seat has the number p
 abbrev pub is_own : ℕ → Stance → ℕ
@@ -34,7 +34,7 @@ just_most x (Some y) = by_test (eqb y x)
     by_test true = omega arith
     by_test false = omega arith
 
-pub both_here : (p x : ℕ) (own o : Option ℕ) → own ≡ Some p → both_are p x own o ≡ is_just x o
+both_here : (p x : ℕ) (own o : Option ℕ) → own ≡ Some p → both_are p x own o ≡ is_just x o
 both_here p x own o is = ap (λ (n : Option ℕ). both_are p x n o) is ∙ ap (λ (b : Bool). cond {A = ℕ} b (is_just x o) 0) (eq-eqb p p refl)
 
 pub both_else : (p q x : ℕ) (own o : Option ℕ) → own ≡ Some q → q ≢ p → both_are p x own o ≡ 0
@@ -85,8 +85,8 @@ module _ (homes : Homes) (seats : List Stance) (id : ℕ) (v w : Stance) (at : g
   pub amount_out : (c : ℕ) (k : Kept) → get_elem? homes c ≡ maybe.some (maybe.some k) → v.hand ≡ None → w.hand ≡ in_hand c k.list.items → amount_on f x (set homes c maybe.none) (set seats id w) ≡ amount_on f x homes seats
   amount_out c k home free has = let sum = total_set (amount_by f x) seats id v w at in let had : hand_amount f x v.hand ≡ 0 = ap (hand_amount f x) free in dite (ℕ_discrete x c)
       (λ is. let was : home_amount f x homes ≡ f k.list.items = ap (λ (j : ℕ). home_amount f j homes) is ∙ ap (λ o. f (home_of o).list.items) home in
-        let now : home_amount f x (set homes c maybe.none) ≡ 0 = ap (λ (j : ℕ). home_amount f j (set homes c maybe.none)) is ∙ ap (λ o. f (home_of o).list.items) (set_here homes c maybe.none (at_inside homes c (maybe.some k) home)) ∙ none in
-        let mine : hand_amount f x w.hand ≡ f k.list.items = ap (λ (j : ℕ). hand_amount f j w.hand) is ∙ hand_here f c w.hand k.list.items has in omega arith)
+      let now : home_amount f x (set homes c maybe.none) ≡ 0 = ap (λ (j : ℕ). home_amount f j (set homes c maybe.none)) is ∙ ap (λ o. f (home_of o).list.items) (set_here homes c maybe.none (at_inside homes c (maybe.some k) home)) ∙ none in
+      let mine : hand_amount f x w.hand ≡ f k.list.items = ap (λ (j : ℕ). hand_amount f j w.hand) is ∙ hand_here f c w.hand k.list.items has in omega arith)
       (λ ne. let mine = hand_else f x c w.hand k.list.items has ne in let now : home_amount f x (set homes c maybe.none) ≡ home_amount f x homes = ap (λ o. f (home_of o).list.items) (set_else homes c x maybe.none ne) in omega arith)
 
   -- the list in hand goes home, as another
@@ -136,9 +136,6 @@ module _ (seats : List Stance) (alone : Alone seats) (id o : ℕ) (v w : Stance)
   pub else_after : (p : ℕ) → o ≢ p → total (counts p) (set seats id w) ≡ total (counts p) seats
   else_after p ne = let sum = total_set (counts p) seats id v w at in let was = both_else p o x v.own (f v) own ne in let now = both_else p o x w.own (f w) (still ∙ own) ne in omega arith
 
--- a number that no seat has
-pub nobody_counts : (seats : List Stance) (p x : ℕ) (f : Stance → Option ℕ) → total (is_own p) seats ≡ 0 → total (λ (u : Stance). both_are p x u.own (f u)) seats ≡ 0
-nobody_counts seats p x f none = let le = total_le (λ (u : Stance). both_are p x u.own (f u)) (is_own p) seats (λ i u e. both_most p x u.own (f u)) in omega arith
-
+-- of one number one seat counts
 pub counts_most : (seats : List Stance) (p x : ℕ) (f : Stance → Option ℕ) → Alone seats → total (λ (u : Stance). both_are p x u.own (f u)) seats ≤ 1
 counts_most seats p x f alone = let le = total_le (λ (u : Stance). both_are p x u.own (f u)) (is_own p) seats (λ i u e. both_most p x u.own (f u)) in let one = alone p in omega arith

@@ -14,8 +14,8 @@ use Rattle.seat_roster.proofs.Numbers.{times_append}
 use Rattle.wait_core.specs.Words.{set_at, spin_at, client_base}
 use Rattle.wait_core.specs.Stances.{Stance, Homes, is_just, both_are, amount_by, times_on, heeds_for, has_popped}
 use Rattle.wait_core.specs.SignalIsKept.{SignalReaches, SignalIsKept}
-use Rattle.wait_core.proofs.Lists.{head_here, head_else, times_joined, times_without}
-use Rattle.wait_core.proofs.Turns.{in_hand, StillBelongs, IsStill, reads, first, latches, marks, wakes, shuts, client, Sends, returns, stays_listed, joins, leaves, pops, signs, ends, Turn, stays, reaches, resets, takes, frees, idle}
+use Rattle.wait_core.proofs.Lists.{head_else, times_joined, times_without}
+use Rattle.wait_core.proofs.Turns.{in_hand, IsStill, reads, first, latches, marks, wakes, shuts, client, Sends, returns, stays_listed, joins, leaves, pops, signs, ends, Turn, stays, reaches, resets, takes, frees, idle}
 use Rattle.wait_core.proofs.Owning.{just_here, just_else, both_none, amount_same, amount_out, amount_sent, amount_apart, amount_held, Alone, own_counts, own_after, else_after}
 use Rattle.wait_core.proofs.SpinInOneHand.{Hands, SpinsAreFlags, one_hand, home_out, sends_hand}
 
@@ -91,7 +91,7 @@ sends_signals p c found left v w (ends e here quiet is) = record {
 }
 
 -- what a word that is no latch becomes, or one that is stored 1, clears no latch
-pub still_latches : (z : Size) (words : List ℕ) (i x : ℕ) → client_base z ≤ length words → IsStill z words i x → (q : ℕ) → q < z.procs → (get_or (set words i x) (set_at q) 0 ≡ get_or words (set_at q) 0) ⊎ (get_or (set words i x) (set_at q) 0 ≡ 1)
+still_latches : (z : Size) (words : List ℕ) (i x : ℕ) → client_base z ≤ length words → IsStill z words i x → (q : ℕ) → q < z.procs → (get_or (set words i x) (set_at q) 0 ≡ get_or words (set_at q) 0) ⊎ (get_or (set words i x) (set_at q) 0 ≡ 1)
 still_latches z words i x wide (reads e) q below = inl (ap (λ (n : ℕ). get_or (set words i n) (set_at q) 0) e ∙ ap (λ (l : List ℕ). get_or l (set_at q) 0) (set-get_or words i 0))
 still_latches z words i x wide (first e) q below = inl (get_or-set_other words i (set_at q) x 0 (λ is. omega arith))
 still_latches z words i x wide (latches p less e one) q below = dite (ℕ_discrete q p)
@@ -112,8 +112,8 @@ module _ (z : Size) (words : List ℕ) (homes : Homes) (seats : List Stance) (wi
       → ((get_or (set words i x) (set_at p) 0 ≡ get_or words (set_at p) 0) × (is_just p w.pops ≡ is_just p v.pops)) ⊎ (get_or (set words i x) (set_at p) 0 ≡ 1) → Reaches p y h
   quiet p y few below h times own still latch heeds off = ⊎_elim
       (λ (t : (get_or (set words i x) (set_at p) 0 ≡ get_or words (set_at p) 0) × (is_just p w.pops ≡ is_just p v.pops)). let same = t.0 in let pops = t.1 in
-        let sum = total_set (heeds_for p y) seats id v w at in let mine : heeds_for p y w ≡ heeds_for p y v = λ j. both_are p y (own j) (still j) in let popped = total_set (has_popped p) seats id v w at in
-        let before = was p y few below (omega arith) (omega arith) in omega arith)
+      let sum = total_set (heeds_for p y) seats id v w at in let mine : heeds_for p y w ≡ heeds_for p y v = λ j. both_are p y (own j) (still j) in let popped = total_set (has_popped p) seats id v w at in
+      let before = was p y few below (omega arith) (omega arith) in omega arith)
       (λ (one : get_or (set words i x) (set_at p) 0 ≡ 1). omega arith) latch
 
   -- nothing is listed or heeded anew
@@ -126,10 +126,10 @@ module _ (z : Size) (words : List ℕ) (homes : Homes) (seats : List Stance) (wi
   cleared : (o : ℕ) → o < z.procs → v.own ≡ Some o → i ≡ set_at o → after ≡ homes → w ≡ record v { heeds = None } → SignalIsKept z.procs (z.cvs + z.bars) (set words i x) after (set seats id w)
   cleared o less own at_o stay is p y few below = subst (λ (h : Homes). Reaches p y h) (sym stay) (dite (ℕ_discrete o p)
       (λ (same : o ≡ p). λ heeds off. let none : total (heeds_for p y) (set seats id w) ≡ is_just y w.heeds = ap (λ (q : ℕ). total (heeds_for q y) (set seats id w)) (sym same) ∙ own_after seats alone id o v w at own (ap own_of is) heeds_of y in
-        let no = ap (is_just y) (ap heeds_of is) in absurd (omega arith))
+      let no = ap (is_just y) (ap heeds_of is) in absurd (omega arith))
       (λ (ne : o ≢ p). λ heeds off. let word = get_or-set_other words i (set_at p) x 0 (λ e. ne (omega arith)) in let times = amount_same homes seats id v w at (times p) refl y (ap (λ (u : Stance). u.hand) is) in
-        let same = else_after seats alone id o v w at own (ap own_of is) heeds_of y p ne in let popped = total_set (has_popped p) seats id v w at in let pops = ap (is_just p) (ap pops_of is) in
-        let before = was p y few below (omega arith) (omega arith) in omega arith))
+      let same = else_after seats alone id o v w at own (ap own_of is) heeds_of y p ne in let popped = total_set (has_popped p) seats id v w at in let pops = ap (is_just p) (ap pops_of is) in
+      let before = was p y few below (omega arith) (omega arith) in omega arith))
 
   -- a list leaves its slot
   taken : (c : ℕ) (k : Kept) → i ≡ spin_at z c → get_elem? homes c ≡ maybe.some (maybe.some k) → after ≡ set homes c maybe.none → v.hand ≡ None → w ≡ record v { hand = in_hand c k.list.items } → SignalIsKept z.procs (z.cvs + z.bars) (set words i x) after (set seats id w)
@@ -155,17 +155,17 @@ module _ (z : Size) (words : List ℕ) (homes : Homes) (seats : List Stance) (wi
         let moved = amount_sent homes seats id v w at (times p) refl c c found k out has free refl in let before = amount_held (times p) refl homes seats id c v found at (one_hand z words homes seats wide flags hands c inside) out has in
         dite (ℕ_discrete o p)
         (λ (is : o ≡ p). let a = mine_before p c is in let b = mine_after p c is in
-          ⊎_elim (λ (self : 1 ≤ is_just p w.pops). omega arith) (λ (t : (1 ≤ is_just c v.heeds) × (times p found ≡ 0)). let h = t.0 in let n = t.1 in let old = was p c few inside (omega arith) (omega arith) in omega arith)
-          (subst (λ (q : ℕ). 1 ≤ is_just c w.heeds → times q k.list.items ≡ 0 → (1 ≤ is_just q w.pops) ⊎ ((1 ≤ is_just c v.heeds) × (times q found ≡ 0))) is facts.mine (omega arith) (omega arith)))
+        ⊎_elim (λ (self : 1 ≤ is_just p w.pops). omega arith) (λ (t : (1 ≤ is_just c v.heeds) × (times p found ≡ 0)). let h = t.0 in let n = t.1 in let old = was p c few inside (omega arith) (omega arith) in omega arith)
+        (subst (λ (q : ℕ). 1 ≤ is_just c w.heeds → times q k.list.items ≡ 0 → (1 ≤ is_just q w.pops) ⊎ ((1 ≤ is_just c v.heeds) × (times q found ≡ 0))) is facts.mine (omega arith) (omega arith)))
         (λ (ne : o ≢ p). let a = else_after seats alone id o v w at own facts.own heeds_of c p ne in let l = facts.popped p ne in dite (ℕ_discrete (times p found) 0)
-          (λ (none : times p found ≡ 0). let old = was p c few inside (omega arith) (omega arith) in omega arith) (λ (some : times p found ≢ 0). omega arith))
+        (λ (none : times p found ≡ 0). let old = was p c few inside (omega arith) (omega arith) in omega arith) (λ (some : times p found ≢ 0). omega arith))
 
     sent_apart : (p y : ℕ) → p < z.procs → y < z.cvs + z.bars → y ≢ c → Reaches p y (set homes c (maybe.some k))
     sent_apart p y few below apart heeds off =
         let now = counted p few in let moved = amount_apart homes seats id v w at (times p) refl y c found (maybe.some k) has free apart in
         let less : total (heeds_for p y) (set seats id w) ≤ total (heeds_for p y) seats = dite (ℕ_discrete o p)
-            (λ (is : o ≡ p). let e = facts.elsewhere y apart in let a = mine_before p y is in let b = mine_after p y is in omega arith)
-            (λ (ne : o ≢ p). let a = else_after seats alone id o v w at own facts.own heeds_of y p ne in omega arith) in
+        (λ (is : o ≡ p). let e = facts.elsewhere y apart in let a = mine_before p y is in let b = mine_after p y is in omega arith)
+        (λ (ne : o ≢ p). let a = else_after seats alone id o v w at own facts.own heeds_of y p ne in omega arith) in
         let old = was p y few below (omega arith) (omega arith) in omega arith
 
     sent : after ≡ set homes c (maybe.some k) → SignalIsKept z.procs (z.cvs + z.bars) (set words i x) after (set seats id w)

@@ -1,5 +1,5 @@
 -- A spin word says who has in hand what it guards: what follows from it, and that each turn keeps it.
-use Rattle.std.proofs.Common.{◌≡◌, ◌≢◌, ◌⊎◌, ℕ, ◌+◌, ◌<◌, ◌≤◌, List, [], ◌∷◌, ◌++◌, length, get_or, set, Option, None, Some, sym, refl, ap, ◌∙◌, subst, arith, get_or-set_other, get_or-set_same}
+use Rattle.std.proofs.Common.{◌≡◌, ◌≢◌, ℕ, ◌+◌, ◌<◌, ◌≤◌, List, [], ◌∷◌, ◌++◌, length, get_or, set, Option, None, sym, refl, ap, ◌∙◌, subst, arith, get_or-set_other, get_or-set_same}
 use mathlib.Core.Logic.{dite}
 use mathlib.Core.Option as maybe
 use native.Mathlib.Decide.{ℕ_discrete}
@@ -10,7 +10,7 @@ use Rattle.wait_core.specs.declared.view.Kept.{Kept}
 use Rattle.wait_core.specs.declared.view.Size.{Size}
 use Rattle.seat_roster.specs.Totals.{total}
 use Rattle.seat_roster.proofs.Totals.{total_set, total_snoc, total_at, at_inside}
-use Rattle.wait_core.specs.Words.{set_at, spin_at, client_base}
+use Rattle.wait_core.specs.Words.{spin_at, client_base}
 use Rattle.wait_core.specs.Stances.{Hand, Stance, Homes, has_slot, has_list}
 use Rattle.wait_core.specs.SpinInOneHand.{SpinInOneHand}
 use Rattle.wait_core.proofs.Turns.{in_hand, IsStill, reads, first, latches, marks, wakes, shuts, client, Sends, returns, stays_listed, joins, leaves, pops, signs, ends, Turn, stays, reaches, resets, takes, frees, idle}
@@ -37,7 +37,7 @@ sends_hand p c found left v w (signs q rest e f none quiet is) = ap hand_of is
 sends_hand p c found left v w (ends e here quiet is) = ap hand_of is
 
 -- no spin word changes
-pub still_spins : (z : Size) (words : List ℕ) (i x : ℕ) → IsStill z words i x → (y : ℕ) → y < z.cvs + z.bars → get_or (set words i x) (spin_at z y) 0 ≡ get_or words (spin_at z y) 0
+still_spins : (z : Size) (words : List ℕ) (i x : ℕ) → IsStill z words i x → (y : ℕ) → y < z.cvs + z.bars → get_or (set words i x) (spin_at z y) 0 ≡ get_or words (spin_at z y) 0
 still_spins z words i x (reads e) y below = ap (λ (n : ℕ). get_or (set words i n) (spin_at z y) 0) e ∙ ap (λ (l : List ℕ). get_or l (spin_at z y) 0) (set-get_or words i 0)
 still_spins z words i x (first e) y below = get_or-set_other words i (spin_at z y) x 0 (λ is. omega arith)
 still_spins z words i x (latches q less e one) y below = get_or-set_other words i (spin_at z y) x 0 (λ is. omega arith)

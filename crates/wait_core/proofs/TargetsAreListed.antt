@@ -1,5 +1,5 @@
 -- Each turn keeps that a backend is listed where it belongs, once.
-use Rattle.std.proofs.Common.{◌≡◌, ◌≢◌, ◌⊎◌, ℕ, ◌+◌, ◌<◌, ◌≤◌, Bool, true, false, cond, List, [], ◌∷◌, ◌++◌, length, get_or, set, Option, None, Some, sym, refl, ap, ◌∙◌, subst, ⊎_elim, inl, inr, arith}
+use Rattle.std.proofs.Common.{◌≡◌, ◌≢◌, ℕ, ◌+◌, ◌<◌, ◌≤◌, List, [], ◌∷◌, ◌++◌, length, set, Option, None, Some, sym, refl, ap, ◌∙◌, subst, ⊎_elim, arith}
 use mathlib.Core.Logic.{dite}
 use mathlib.Core.Option as maybe
 use native.Mathlib.Decide.{ℕ_discrete}
@@ -10,12 +10,11 @@ use Rattle.seat_roster.specs.Totals.{total}
 use Rattle.seat_roster.specs.Roster.{times}
 use Rattle.seat_roster.proofs.Totals.{total_set, total_snoc}
 use Rattle.wait_core.specs.Words.{client_base}
-use Rattle.wait_core.specs.Lists.{without}
-use Rattle.wait_core.specs.Stances.{Stance, Homes, is_just, both_are, amount_by, times_on, belongs_to}
+use Rattle.wait_core.specs.Stances.{Stance, Homes, is_just, both_are, amount_by, belongs_to}
 use Rattle.wait_core.specs.TargetsAreListed.{ListedWhereItBelongs, TargetsAreListed}
-use Rattle.wait_core.proofs.Lists.{head_here, head_else, times_last, times_joined, times_without, times_gone, times_left}
+use Rattle.wait_core.proofs.Lists.{head_here, times_last, times_joined, times_gone, times_left}
 use Rattle.wait_core.proofs.Turns.{in_hand, StillBelongs, Sends, returns, stays_listed, joins, leaves, pops, signs, ends, Turn, stays, reaches, resets, takes, frees, idle}
-use Rattle.wait_core.proofs.Owning.{just_here, just_else, just_most, both_here, both_none, amount_same, amount_out, amount_sent, amount_apart, amount_held, Alone, own_counts, own_after, else_after}
+use Rattle.wait_core.proofs.Owning.{just_here, just_else, just_most, both_none, amount_same, amount_out, amount_sent, amount_apart, amount_held, Alone, own_counts, own_after, else_after}
 use Rattle.wait_core.proofs.SpinInOneHand.{Hands, SpinsAreFlags, one_hand, home_out, sends_hand}
 
 abbrev belongs_of : Stance → Option ℕ

@@ -1,5 +1,5 @@
 -- Each kind of step, as what it does to spin words, latches and lists.
-use Rattle.std.proofs.Common.{◌≡◌, ◌⊎◌, ℕ, ◌+◌, ◌<◌, ◌≤◌, eqb, Bool, true, false, cond, List, [], ◌∷◌, ◌++◌, get_or, set, Option, None, Some, sym, refl, ap, ◌∙◌, subst, inl, inr, arith, eqb-true}
+use Rattle.std.proofs.Common.{◌≡◌, ℕ, ◌+◌, ◌<◌, ◌≤◌, eqb, Bool, true, false, cond, List, [], ◌∷◌, ◌++◌, get_or, set, Option, None, Some, sym, refl, ap, ◌∙◌, subst, inl, inr, arith, eqb-true}
 use Rattle.std.proofs.lemmas.Bool.{eqb-false}
 use mathlib.Core.Option as maybe
 use lib.ListN.{get_elem?}
@@ -21,13 +21,13 @@ use Rattle.wait_core.specs.declared.view.Record.{Record}
 use Rattle.wait_core.specs.declared.view.Size.{Size}
 use Rattle.wait_core.specs.declared.view.WaitView.{WaitView}
 use Rattle.wait_core.specs.Words.{set_at, may_at, byte_at, shut_at, slot_of, spin_at}
-use Rattle.wait_core.specs.Lists.{is_listed, is_empty, rest_of}
+use Rattle.wait_core.specs.Lists.{is_listed}
 use Rattle.wait_core.specs.Jobs.{condition_of, spot_of, left_list, target_after, heeds_after, resumed, goes_on}
-use Rattle.wait_core.specs.Machine.{Place, top, outer, number_of, word_of, becomes, watching, begun, reloaded, marked, woken, looked, drained, reset, entered, as_kept, taken, spun, place_then, target_then, heeds_then, left_at, home_of, home_in, slot_number, act_of, carried, SetsLatchOf, WaitsForLatch, IsInside, MayBegin, BeginsLoad, takes_first, spot_for, MayReload, MayMark, MayWake, MayLook, MayDrain, MayReset, MayTake, MaySpin, MayFree, IsSpot, Permits, next_with}
+use Rattle.wait_core.specs.Machine.{Place, top, outer, number_of, word_of, becomes, begun, reloaded, marked, woken, looked, drained, reset, entered, as_kept, taken, spun, place_then, target_then, heeds_then, home_of, home_in, slot_number, act_of, carried, SetsLatchOf, WaitsForLatch, IsInside, MayBegin, BeginsLoad, takes_first, spot_for, MayReload, MayMark, MayWake, MayLook, MayDrain, MayReset, MayTake, MaySpin, MayFree, IsSpot, Permits, next_with}
 use Rattle.wait_core.specs.Fits.{BehindSet, BehindWait, BehindCancel, JobFits, Fits}
-use Rattle.wait_core.specs.Stances.{Hand, Stance, Homes, hand_at, belongs_at, heeds_at, pops_at, stance_of}
+use Rattle.wait_core.specs.Stances.{Stance, Homes, hand_at, belongs_at, heeds_at, pops_at, stance_of}
 use Rattle.wait_core.proofs.Lists.{listed_there, not_listed}
-use Rattle.wait_core.proofs.Turns.{in_hand, IsStill, reads, latches, marks, wakes, shuts, Sends, returns, stays_listed, joins, leaves, pops, signs, ends, Turn, stays, reaches, resets, takes, frees, idle}
+use Rattle.wait_core.proofs.Turns.{reads, latches, marks, wakes, shuts, Sends, returns, stays_listed, joins, leaves, pops, signs, ends, Turn, stays, reaches, resets, takes, frees, idle}
 
 -- the stance of a seat with this number and this target, which heeds its signal or not, at this place
 abbrev pub stance : Option ℕ → Option ℕ → Bool → Place → Stance
@@ -318,7 +318,7 @@ module _ (z : Size) (words : List ℕ) (homes : Homes) (o : ℕ) (below : o < z.
             (sym ok.1) (free_turned t h j list found p low fits))
     free_at x after p inside ok fits = absurd ok
 
-    pub turning : (k : WaitStep) (p : Place) → Permits z k (Some o) t p → Fits z.cvs t p → found_at (word_of z o k) ≤ 1 → TurnsAt k t h p
+    turning : (k : WaitStep) (p : Place) → Permits z k (Some o) t p → Fits z.cvs t p → found_at (word_of z o k) ≤ 1 → TurnsAt k t h p
     turning (Sload q (Some c)) p ok fits few = begun_turned t h q c (eqb (found_at (set_at q)) 0) p (λ e. is_one _ few e) ok.0 ok.1 fits
     turning (Sload q None) p ok fits few = seen_turned t h (set_at q) p (reloaded (eqb (found_at (set_at q)) 0) p) (reloaded_same (Some o) t h z.cvs (eqb (found_at (set_at q)) 0) p ok.1 fits)
     turning (Sset q) p ok fits few = at_top (λ (r : Place). Fits z.cvs t r → TurnsAt (Sset q) t h r) p (Setting q) ok.1 (λ f. set_turned t h q (outer p) ok.0 f) fits

@@ -1,5 +1,5 @@
 -- Broadcasts over a run: the first take, the sentinel, and who has left the list since.
-use Rattle.std.specs.Prelude.{◌≡◌, ◌⊎◌, ℕ, ◌≤◌, List, ◌∷◌, Option, Some, map}
+use Rattle.std.specs.Prelude.{◌≡◌, ◌⊎◌, ℕ, ◌≤◌, List, ◌∷◌, None, Some, map}
 use mathlib.Core.Option as maybe
 use lib.ListN.{get_elem?}
 use Rattle.wait_core.specs.declared.view.Frame.TheVariants.{Holding}
@@ -27,10 +27,10 @@ module _ {C : Type 0} where
     pub rest : Place
     pub place : view.place ≡ Holding (Broadcast c) list found ∷ rest
 
-  -- p was on the list of c before this event and isn't any more, by a step of its own or of somebody who has popped it
+  -- p was on the list of c before this event of the seat id and isn't any more: it left by itself and has no target since, or the seat has popped it
   pub record TakesOff (p c : ℕ) (s : WaitState C) (id : ℕ) (t : WaitState C) : Type 0 where
     pub was : 1 ≤ listed_on p c s
     pub gone : listed_on p c t ≡ 0
     pub view : WaitView C
     pub at : get_elem? t.views id ≡ maybe.some view
-    pub by : (view.own ≡ Some p) ⊎ (pops_at view.place ≡ Some p)
+    pub by : ((view.own ≡ Some p) × (view.target ≡ None)) ⊎ (pops_at view.place ≡ Some p)
