@@ -67,7 +67,7 @@ pub fn open_tables<'r>(
     requires workers { (0 < plan.workers) × (plan.workers ≤ 16) }
     requires buckets { IsPowerOfTwo plan.buckets × (plan.buckets ≤ 262144) }
     ensures rows { IfOk result (λ t. (t.0.waits.party.inner ≡ inner.entry) × (t.0.waits.party.outer ≡ outer.entry)) }
-    ensures plan { IfOk result (λ t. t.0.plan ≡ plan) }
+    ensures plan { IfOk result (λ t. (t.0.plan ≡ plan) × (t.0.waits.party.buckets ≡ plan.buckets) × (t.0.waits.party.batches ≡ 1)) }
     ensures lock { IfOk result (λ t. (t.1.lock.table_id ≡ t.0.locks.table_id) × (t.1.lock.view ≡ lock.fresh (Some 0))) }
     ensures wait { IfOk result (λ t. (t.1.wait.table_id ≡ t.0.waits.table_id) × (t.1.wait.view ≡ wait.fresh first_view (Some 0))) }
     ensures signal { IfOk result (λ t. (t.1.signal.table_id ≡ t.0.signals.table_id) × (t.1.signal.view ≡ signal.fresh (Some 0))) }
