@@ -1,4 +1,4 @@
-use Rattle.std.proofs.Common.{◌<◌, ◌^◌, ℕ, false, refl, sym, subst, arith}
+use Rattle.std.proofs.Common.{◌<◌, ℕ, false, refl, sym, subst, arith}
 use Rattle.std.proofs.lemmas.Nat.{pow_pos}
 use Rattle.join_law.proofs.Openings.{opening_stands}
 use Rattle.join_party.proofs.RowsMeeting.{rows_meet}
