@@ -5,7 +5,7 @@ use Rattle.wait_core.specs.Parties.{with_client, newcomer, joined, left_over, el
 use Rattle.join_law.specs.declared.step.HashStep.{HashStep}
 use Rattle.join_law.specs.declared.step.HashStep.TheVariants.{Load, Claim, StoreHash, StoreNext, Push, Take, AddBatchSize, ClearBatchSize, StoreSizes, Draw, AddResults}
 use Rattle.join_law.specs.declared.step.Word.{Word}
-use Rattle.join_law.specs.Layout.{Join, Memory, flat, place, Inside, read, write, word_count}
+use Rattle.join_law.specs.Layout.{Join, Memory, place, Inside, read, write, word_count}
 use Rattle.join_law.specs.Views.{View, first_view, spent_view, both_views}
 use Rattle.join_law.specs.Machine.{step_op, word_of, spot, May, after}
 use Rattle.join_law.specs.Quiet.{Quiet, Enters, Stays}
