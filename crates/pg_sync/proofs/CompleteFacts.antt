@@ -31,6 +31,7 @@ inner_calm before now f g (status.BadInput side.Outer x) h = h.0
 inner_calm before now f g status.TooManyResults h = h.0
 inner_calm before now f g status.WriteFault h = h.0
 inner_calm before now f g status.NoMemory h = h.0
+inner_calm before now f g (status.BadScript n) h = h.0
 
 -- a side that is a table is refused for nothing
 pub side_refusal-table : (s : _) (key bytes : List ℕ) → IsTable key bytes → side_refusal s key bytes ≡ None
@@ -78,6 +79,7 @@ unfolding answer_of
 decided job None outer before now f g result bytes counts = tt
 decided job (Some i) outer before now f g status.NoMemory bytes counts = each-some (answer_of job (Some i) outer) _ (λ s none. inr refl)
 decided job (Some i) outer before now f g status.Words bytes counts = absurd bytes
+decided job (Some i) outer before now f g (status.BadScript n) bytes counts = absurd bytes
 decided job (Some i) outer before now f g (status.OpenFault side.Inner) bytes counts =
     each-some (answer_of job (Some i) outer) _ (λ s none. absurd ((inner_calm before now f g s none).opens counts.0))
 decided job (Some i) outer before now f g (status.ReadFault side.Inner) bytes counts =

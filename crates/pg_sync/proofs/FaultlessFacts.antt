@@ -35,3 +35,4 @@ faultless p i o a b c d t x y f g (status.BadInput s k) calm same full leaves co
 faultless p i o a b c d t x y f g status.TooManyResults calm same full leaves counts there = counts
 faultless p i o a b c d t x y f g status.WriteFault calm same full leaves counts there = absurd (has_room a b c t there.room leaves (rw same at (full refl)))
 faultless p i o a b c d t x y f g status.NoMemory calm same full leaves counts there = counts
+faultless p i o a b c d t x y f g (status.BadScript n) calm same full leaves counts there = counts

@@ -3,3 +3,4 @@ pub mod CompleteFacts
 pub mod WrittenFacts
 pub mod FaultlessFacts
 pub mod MakeFacts
+pub mod ScheduleFacts

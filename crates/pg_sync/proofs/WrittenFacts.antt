@@ -46,6 +46,7 @@ shown-leaves pairs text due old new f g (status.OpenFault s) e h = absurd h
 shown-leaves pairs text due old new f g (status.ReadFault s) e h = absurd h
 shown-leaves pairs text due old new f g (status.TooLong s) e h = absurd h
 shown-leaves pairs text due old new f g (status.BadInput s k) e h = absurd h
+shown-leaves pairs text due old new f g (status.BadScript n) e h = absurd h
 
 pub join-leaves : (job : Job) (inner outer : Option (List ℕ)) (i o : Table) (old new : Option (List ℕ)) (faults faults' : ℕ) (result : Status)
     → Loads inner job.inner_key (Ok i) → Loads outer job.outer_key (Ok o)

@@ -18,7 +18,8 @@ use Rattle.join_engine.specs.Limit.{pair_limit}
 use Rattle.pg_sync.specs.declared.status.Status.{Status}
 use Rattle.pg_sync.specs.declared.status.Status.TheVariants as status
 use Rattle.pg_sync.specs.Make.{made_pairs, made_text}
-use Rattle.pg_sync.specs.Words.{Job, Task, Join, Make}
+use Rattle.pg_sync.specs.Schedule.{script_due, script_status}
+use Rattle.pg_sync.specs.Words.{Job, Task, Join, Schedule, Make}
 
 -- the pairs of the nested-loop join of two inputs by one thread
 abbrev pub pairs_of : Job → List ℕ → List ℕ → List Pair
@@ -99,6 +100,7 @@ BytesShow job inner outer (status.BadInput side.Outer f) = IfSome inner (IsTable
 BytesShow job inner outer status.TooManyResults = HasTooManyResults job inner outer
 BytesShow job inner outer status.WriteFault = IsJoinable job inner outer
 BytesShow job inner outer status.NoMemory = Unit {0}
+BytesShow job inner outer (status.BadScript line) = ⊥
 
 -- the counts of faults of two inputs
 pub record Counts : Type 0 where
@@ -133,6 +135,7 @@ CountsShow before now faults faults' (status.BadInput s f) = NoneFailed before n
 CountsShow before now faults faults' status.TooManyResults = NoneFailed before now faults faults'
 CountsShow before now faults faults' status.WriteFault = IsQuiet before now side.Inner × IsQuiet before now side.Outer × Rose faults faults'
 CountsShow before now faults faults' status.NoMemory = NoneFailed before now faults faults'
+CountsShow before now faults faults' (status.BadScript line) = NoneFailed before now faults faults'
 
 -- what each answer has left written: all of the text, a proper front of it after a failed write, any front of it after
 -- want of memory, and else nothing
@@ -146,6 +149,7 @@ Leaves old new text (status.ReadFault s) = new ≡ old
 Leaves old new text (status.TooLong s) = new ≡ old
 Leaves old new text (status.BadInput s f) = new ≡ old
 Leaves old new text status.TooManyResults = new ≡ old
+Leaves old new text (status.BadScript line) = new ≡ old
 
 -- the text that is due of the join of two tables, which has so many pairs: none where they are too many
 abbrev pub text_within : ℕ → List ℕ → List ℕ
@@ -162,6 +166,7 @@ JoinShows pairs text old new faults faults' (status.OpenFault s) = ⊥
 JoinShows pairs text old new faults faults' (status.ReadFault s) = ⊥
 JoinShows pairs text old new faults faults' (status.TooLong s) = ⊥
 JoinShows pairs text old new faults faults' (status.BadInput s f) = ⊥
+JoinShows pairs text old new faults faults' (status.BadScript line) = ⊥
 
 -- no fault rose on a side
 pub record NoneRose (before now : Counts) (s : Side) : Type 0 where
@@ -193,6 +198,7 @@ NoInputFailed (status.BadInput s f) = Unit {0}
 NoInputFailed status.TooManyResults = Unit {0}
 NoInputFailed status.WriteFault = Unit {0}
 NoInputFailed status.NoMemory = Unit {0}
+NoInputFailed (status.BadScript line) = Unit {0}
 
 -- a sink that tells what it has taken, and how many bytes it takes in all, has room for a text
 abbrev pub HasRoom : Option (List ℕ) → Option ℕ → Option (List ℕ) → Type 0
@@ -219,4 +225,14 @@ refusal_of s load.NoMemory = status.NoMemory
 abbrev pub text_for : Option Task → (List ℕ → Option (List ℕ)) → Option (List ℕ)
 text_for None held = None
 text_for (Some (Join job)) held = due_text job (held job.inner) (held job.outer)
+text_for (Some (Schedule name)) held = script_due (held name)
 text_for (Some (Make rows start workers)) held = Some (text_within (length (made_pairs rows start)) (made_text rows start))
+
+-- no fault rose in the calls that come before this answer of a script
+abbrev pub ScriptFaultless : Counts → Counts → ℕ → ℕ → Status → Type 0
+ScriptFaultless before now faults faults' status.Done = NoneRose before now side.Inner × (Rose faults faults' → ⊥)
+ScriptFaultless before now faults faults' s = NoneRose before now side.Inner
+
+-- where no fault rose before it, a script gives the answer that the bytes decide, or memory ran out
+abbrev pub ScriptDecided : Option (List ℕ) → Counts → Counts → ℕ → ℕ → Status → Type 0
+ScriptDecided told before now faults faults' result = IfSome (script_status told) (λ s. ScriptFaultless before now faults faults' s → (result ≡ s) ⊎ (result ≡ status.NoMemory))

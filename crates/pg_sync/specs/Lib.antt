@@ -1,4 +1,5 @@
 pub mod Words
+pub mod Schedule
 pub mod Answer
 pub mod Line
 pub mod Make

@@ -29,6 +29,7 @@ line_of (status.BadInput s fault.TooManyRows) = codes "pg_sync: " ++ side_name s
 line_of status.TooManyResults = codes "pg_sync: too many result rows\n"
 line_of status.WriteFault = codes "pg_sync: cannot write\n"
 line_of status.NoMemory = codes "pg_sync: out of memory\n"
+line_of (status.BadScript line) = codes "pg_sync: bad script line " ++ decimal line ++ codes "\n"
 
 -- a sink has taken exactly this line, or a proper front of it where a fault of its own rose
 abbrev pub TakesLine : Option (List ℕ) → Option (List ℕ) → ℕ → ℕ → List ℕ → Type 0
@@ -44,3 +45,4 @@ exit_number (status.BadInput s f) = 5
 exit_number status.TooManyResults = 6
 exit_number status.WriteFault = 7
 exit_number status.NoMemory = 8
+exit_number (status.BadScript line) = 9

@@ -14,9 +14,10 @@ pub record Job : Type 0 where
   pub inner_key : List ℕ
   pub outer_key : List ℕ
 
--- a command: a join, or the join of two tables of so many drawn keys from a start, by so many workers
+-- a command: a join, a script of this name played, or the join of two tables of so many drawn keys from a start, by so many workers
 pub data Task : Type 0 where
   Join : Job → Task
+  Schedule : List ℕ → Task
   Make : (rows start workers : ℕ) → Task
 
 -- the number of workers that a word names: one, as yet
@@ -44,23 +45,35 @@ abbrev pub make_of : List ℕ → List ℕ → List ℕ → List ℕ → Option 
 make_of verb rows start workers =
     if bytes_eq verb (codes "make") then make_at (number_of 1 65536 rows) (number_of 0 4294967295 start) (workers_of workers) else None
 
--- the command: nine words for a join, in this order, four for `make`, and no others
+abbrev pub schedule_of : List ℕ → List ℕ → Option Task
+schedule_of verb name = if bytes_eq verb (codes "schedule") && is_input name then Some (Schedule name) else None
+
+-- the command: nine words for a join, in this order, two for `schedule`, four for `make`, and no others
 unfoldable pub command_of : List (List ℕ) → Option Task
+command_of (verb ∷ name ∷ []) = schedule_of verb name
 command_of (verb ∷ rows ∷ start ∷ workers ∷ []) = make_of verb rows start workers
 command_of (verb ∷ inner ∷ outer ∷ first ∷ inner_key ∷ second ∷ outer_key ∷ third ∷ workers ∷ []) =
     if is_join verb inner outer first second third workers
     then Some (Join (record { inner = inner; outer = outer; inner_key = inner_key; outer_key = outer_key })) else None
 command_of words = None
 
--- what holds of a join, and what of `make`; nothing is said of another command
+-- what holds of a join, what of a script, and what of `make`; nothing is said of another command
 abbrev pub IfJoin : Option Task → (Job → Type 0) → Type 0
 IfJoin None P = Unit {0}
 IfJoin (Some (Join job)) P = P job
+IfJoin (Some (Schedule name)) P = Unit {0}
 IfJoin (Some (Make rows start workers)) P = Unit {0}
+
+abbrev pub IfSchedule : Option Task → (List ℕ → Type 0) → Type 0
+IfSchedule None P = Unit {0}
+IfSchedule (Some (Join job)) P = Unit {0}
+IfSchedule (Some (Schedule name)) P = P name
+IfSchedule (Some (Make rows start workers)) P = Unit {0}
 
 abbrev pub IfMake : Option Task → (ℕ → ℕ → Type 0) → Type 0
 IfMake None P = Unit {0}
 IfMake (Some (Join job)) P = Unit {0}
+IfMake (Some (Schedule name)) P = Unit {0}
 IfMake (Some (Make rows start workers)) P = P rows start
 
 -- the join that a command's words name
@@ -69,14 +82,17 @@ job_at job = record { inner = job.inner.now; outer = job.outer.now; inner_key = 
 
 abbrev pub task_in : Command → Task
 task_in (command.Join job) = Join (job_at job)
+task_in (command.Schedule name) = Schedule name.now
 task_in (command.Make rows start workers) = Make rows start workers
 
 -- how a join is to run
 abbrev pub HasPlan : Command → Type 0
 HasPlan (command.Join job) = job.plan ≡ record { workers = 1; buckets = 1024; mem = 65536 }
+HasPlan (command.Schedule name) = Unit {0}
 HasPlan (command.Make rows start workers) = Unit {0}
 
 -- how many rows may be drawn
 abbrev pub HasRows : Command → Type 0
 HasRows (command.Join job) = Unit {0}
+HasRows (command.Schedule name) = Unit {0}
 HasRows (command.Make rows start workers) = (0 < rows) × (rows ≤ 65536)

@@ -21,8 +21,8 @@ use std::sync::Wait;
 use std::sync::ledger::{Blank, Ledger};
 use std::thread::Threads;
 
-// The status of a refused input.
-fn refusal(side: Side, fault: LoadFault) -> Status
+/// The status of a refused input.
+pub(crate) fn refusal(side: Side, fault: LoadFault) -> Status
     ensures { result ≡ refusal_of side fault }
 {
     match fault {

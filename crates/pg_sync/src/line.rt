@@ -49,6 +49,11 @@ fn line_of(status: Status) -> Line
         Status::TooManyResults => line.push_str("pg_sync: too many result rows\n"),
         Status::WriteFault => line.push_str("pg_sync: cannot write\n"),
         Status::NoMemory => line.push_str("pg_sync: out of memory\n"),
+        Status::BadScript(number) => {
+            line.push_str("pg_sync: bad script line ");
+            line.push_str(Buffer::new().format(number));
+            line.push_str("\n");
+        }
     }
     line
 }

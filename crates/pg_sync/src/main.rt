@@ -1,4 +1,5 @@
-//! Joins two CSV files by a key, and prints the rows that meet; or joins two tables of drawn keys.
+//! Joins two CSV files by a key, and prints the rows that meet; joins two tables of drawn
+//! keys, or plays a script of steps.
 #![tactic(auto)]
 
 ghost use Rattle.std.specs.Prelude.{◌≡◌, [], IfOk};
@@ -8,6 +9,7 @@ mod join;
 mod line;
 mod make;
 mod run;
+mod schedule;
 mod status;
 mod words;
 

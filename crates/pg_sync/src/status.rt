@@ -25,6 +25,8 @@ pub enum Status {
     WriteFault,
     /// Memory ran out.
     NoMemory,
+    /// This line of the script is the first that isn't in the grammar or isn't enabled.
+    BadScript(u64),
 }
 
 impl Status {
@@ -44,6 +46,7 @@ impl Status {
             Status::TooManyResults => 6,
             Status::WriteFault => 7,
             Status::NoMemory => 8,
+            Status::BadScript(_) => 9,
         }
     }
 }

@@ -429,3 +429,51 @@ fn lines_that_no_small_input_shows(rt: HostRuntime) -> Result<(), Fail> {
     }
     Ok(())
 }
+
+#[test]
+fn scripts_are_played(rt: HostRuntime) {
+    // the text, each refusal with its line, and a failed write
+    let cases = [
+        (
+            b"signal 1\n0 join\n0 x4".as_slice(),
+            CALM,
+            Status::Done,
+            b"0 mswap S0.mask 0\n0 hload G 0\n0 gstore S0.gen 0\n0 pstore S0.pid 1\n0 = gen 0\nfinal\nS0.pid 1\nS0.gen 0\n".as_slice(),
+            "",
+        ),
+        (
+            b"signal 1\n0 leave\n".as_slice(),
+            CALM,
+            Status::BadScript(2),
+            b"".as_slice(),
+            "pg_sync: bad script line 2\n",
+        ),
+        (
+            b"signal 1\n".as_slice(),
+            Setup {
+                input: Some(1),
+                ..CALM
+            },
+            Status::OpenFault(Side::Inner),
+            b"".as_slice(),
+            "pg_sync: cannot open inner input\n",
+        ),
+        (
+            b"signal 1\n".as_slice(),
+            Setup {
+                out: Some(2),
+                ..CALM
+            },
+            Status::WriteFault,
+            b"final".as_slice(),
+            "pg_sync: cannot write\n",
+        ),
+    ];
+    for (script, setup, status, text, line) in cases {
+        let ended = run_words(&rt, &["schedule", "i"], script, b"", setup);
+        let ended = ended.expect(&rt, "memory");
+        assert_eq!(rt; ended.status, status);
+        assert_eq!(rt; ended.out.taken(), text);
+        assert_eq!(rt; ended.err.taken(), line.as_bytes());
+    }
+}

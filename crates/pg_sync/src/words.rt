@@ -1,7 +1,7 @@
 //! The words of a command.
 
 ghost use Rattle.std.specs.Prelude.{◌≡◌, length, map, option_map, string_bytes, IfSome};
-ghost use Rattle.pg_sync.specs.Words.{HasPlan, HasRows, command_of, is_input, is_join, make_of, task_in, workers_of};
+ghost use Rattle.pg_sync.specs.Words.{HasPlan, HasRows, command_of, is_input, is_join, make_of, schedule_of, task_in, workers_of};
 
 use decimal_word::number_of;
 use row_model::Plan;
@@ -21,6 +21,8 @@ pub struct JoinWords<'w> {
 pub enum Command<'w> {
     /// The join of two inputs.
     Join(JoinWords<'w>),
+    /// The script of this name, played.
+    Schedule(&'w str),
     /// The join of two tables of `rows` keys each, drawn from `start` on.
     Make { rows: u32, start: u32, workers: u32 },
 }
@@ -95,6 +97,30 @@ fn read_join<'w>(words: &'w [String]) -> Option<Command<'w>>
     }))
 }
 
+// What a word, `schedule`, and a name ask for.
+fn schedule_of<'w>(verb: &str, name: &'w str) -> Option<Command<'w>>
+    ensures command { option_map task_in result ≡ schedule_of verb.now name.now }
+    ensures plan { IfSome result HasPlan }
+    ensures rows { IfSome result HasRows }
+{
+    if verb != "schedule" || !is_input(name) {
+        return None;
+    }
+    Some(Command::Schedule(name))
+}
+
+// What two words ask for.
+fn read_schedule<'w>(words: &'w [String]) -> Option<Command<'w>>
+    requires { length words.now ≡ 2 }
+    ensures command { option_map task_in result ≡ command_of (map string_bytes words.now) }
+    ensures plan { IfSome result HasPlan }
+    ensures rows { IfSome result HasRows }
+{
+    let verb = words[0].as_str();
+    let name = words[1].as_str();
+    schedule_of(verb, name)
+}
+
 // What a word, `make`, and the three after it ask for.
 fn make_of<'w>(verb: &str, rows: &str, start: &str, workers: &str) -> Option<Command<'w>>
     ensures command { option_map task_in result ≡ make_of verb.now rows.now start.now workers.now }
@@ -144,6 +170,8 @@ pub fn read_words<'w>(words: &'w [String]) -> Option<Command<'w>>
         read_join(words)
     } else if words.len() == 4 {
         read_make(words)
+    } else if words.len() == 2 {
+        read_schedule(words)
     } else {
         None
     }

@@ -20,7 +20,7 @@ pub lines-cut : (bytes : List ℕ) → position_or_len is_end bytes < length byt
 unfolding lines
 lines-cut [] h = absurd (omega arith)
 lines-cut (b ∷ bs) h = elim (cases_Bool (eqb b 10)) [
-    inl t ↦ rw t refl
+  | inl t ↦ rw t refl
   | inr f ↦ rw f (cut-more b bs (position_or_len is_end bs) (lines-cut bs (let g = rw f at h in omega arith)))
 ]
 
@@ -34,7 +34,7 @@ pub lines-last : (bytes : List ℕ) → length bytes ≤ position_or_len is_end 
 unfolding lines
 lines-last [] h some = absurd (omega arith)
 lines-last (b ∷ bs) h some = elim (cases_Bool (eqb b 10)) [
-    inl t ↦ absurd (let g = rw t at h in omega arith)
+  | inl t ↦ absurd (let g = rw t at h in omega arith)
   | inr f ↦ rw f (last-more b bs 0 (lines-last bs (let g = rw f at h in omega arith)))
 ]
 

@@ -53,7 +53,7 @@ place-fits z p n a (Some Comparing) some ask fits = tt
 place-fits z p n a (Some (Heading g)) some ask fits = either z.procs (eqb n g) None (Some (Swapping n)) (λ _. tt) (λ _. tt)
 place-fits z p n a (Some (Swapping h)) some ask fits = tt
 place-fits z p n a (Some (Taking h found)) some ask fits = elim (cases_Bool (eqb (bit_and found (failing_of a)) 0)) [
-    inl t ↦ rw t tt
+  | inl t ↦ rw t tt
   | inr f ↦ rw f (lowest-below (bit_and found (failing_of a)) 32)
 ]
 place-fits z p n a (Some (Keeping h found failed done)) some ask fits = lowest-below failed (32 - done)

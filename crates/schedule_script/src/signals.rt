@@ -15,12 +15,12 @@ mod texts;
 use crate::machine::Machine;
 use calls::{ask_of, may_begin};
 use places::{becomes, emitted_after, place_after, slot_after};
-use steps::step_at;
-use texts::{opened, push, push_changed, push_turn};
 use proc_table::ProcNo;
 use signal_core::{About, Frame, SigStep, Slot};
 use std::alloc::{AllocError, Global};
 use std::marker::Model;
+use steps::step_at;
+use texts::{opened, push, push_changed, push_turn};
 
 /// A call of a script on signals.
 #[derive(Clone, Copy)]

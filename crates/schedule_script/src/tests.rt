@@ -8,17 +8,20 @@ use std::test::Fail;
 // A post before the joiner clears its mask isn't absorbed.
 const POST_BEFORE_JOINING: &[u8] =
     b"signal 2\n1 emit 0\n1 x2\n0 join\n0 x4\n1 x5\n0 absorb\n0 x5\n";
+
 const POST_BEFORE_JOINING_TEXT: &[u8] =
     b"1 hload G 0\n1 mor S0.mask 1\n0 mswap S0.mask 0\n0 hload G 0\n0 gstore S0.gen 0\n0 pstore S0.pid 1\n0 = gen 0\n1 mor S1.mask 1\n1 hadd G 1\n1 pload S0.pid 1\n1 pend S0.pend 1\n1 pload S1.pid 0\n1 = gen 1\n0 pswap S0.pend 0\n0 gload S0.gen 0\n0 hload G 1\n0 mswap S0.mask 0\n0 gstore S0.gen 1\n0 = published 1\nfinal\nG 1\nS0.pid 1\nS0.gen 1\nS1.mask 1\n";
 
 // Two emissions: the older generation is published, then the newer, and then a kind fails.
 const OLDER_THEN_NEWER_THEN_KEPT: &[u8] =
     b"signal 2\n0 join\n0 x4\n1 emit 3\n1 x7\n0 absorb\n0 x3\n1 emit 5\n1 x4\n0 x2\n1 x3\n0 absorb\n0 x5\n1 emit 3\n1 x7\n0 absorb 8\n0 x6";
+
 const OLDER_THEN_NEWER_THEN_KEPT_SHOWN: &[u8] =
     b"0 = gen 0\n1 = gen 1\n0 = published 1 3 5\n1 = gen 2\n0 = published 2\n1 = gen 3\n0 = kept 8\nfinal\nG 3\nS0.pid 1\nS0.gen 2\nS0.mask 8\nS0.pend 1\nS1.mask 40\n";
 
 // Nobody emits any more at the last generation.
 const WORN_GENERATION: &[u8] = b"signal 1 4611686018427387904\n0 emit 0\n0\n";
+
 const WORN_GENERATION_TEXT: &[u8] =
     b"0 hload G 4611686018427387904\n0 = worn 4611686018427387904\nfinal\n";
 
@@ -108,7 +111,10 @@ fn bad_lines_are_named(rt: HostRuntime) -> Result<(), Fail> {
         (b"signal 1\n0 join\n0 x0\n".as_slice(), 3),
         (b"signal 1\n0 join\n0 x1001\n".as_slice(), 3),
         (b"signal 1\n0 join\n0 x5\n".as_slice(), 3),
-        (b"signal 1\n0 join\n0 x4\n0 absorb 18446744073709551616\n".as_slice(), 4),
+        (
+            b"signal 1\n0 join\n0 x4\n0 absorb 18446744073709551616\n".as_slice(),
+            4,
+        ),
     ];
     for (script, line) in cases {
         assert_eq!(rt; bad_line(&rt, rt.alloc(), script), line);

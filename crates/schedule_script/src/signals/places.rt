@@ -140,7 +140,12 @@ fn prodded(about: About, place: Option<Frame>) -> Option<Frame>
 }
 
 /// The place after a step that found `found`.
-pub(super) fn place_after(about: About, step: &SigStep, found: u64, place: Option<Frame>) -> Option<Frame>
+pub(super) fn place_after(
+    about: About,
+    step: &SigStep,
+    found: u64,
+    place: Option<Frame>,
+) -> Option<Frame>
     requires { PlaceFits about.procs place × (about.procs ≤ 64) }
     ensures { result ≡ place_after about step.now found place }
 {

@@ -121,11 +121,7 @@ fn published_by(slot: Option<Slot>) -> u64
     }
 }
 
-fn push_absorbed(
-    out: &mut Vec<u8>,
-    place: Option<Frame>,
-    published: u64,
-) -> Result<(), AllocError>
+fn push_absorbed(out: &mut Vec<u8>, place: Option<Frame>, published: u64) -> Result<(), AllocError>
     ensures { OnOk result (out.new.items ≡ out.old.items ++ absorb_answer place published) }
 {
     match place {
@@ -219,11 +215,7 @@ pub(super) fn push_turn(
 }
 
 /// Appends the words from the second on that differ from their opening.
-pub(super) fn push_changed(
-    out: &mut Vec<u8>,
-    about: About,
-    words: &[u64],
-) -> Result<(), AllocError>
+pub(super) fn push_changed(out: &mut Vec<u8>, about: About, words: &[u64]) -> Result<(), AllocError>
     requires { length words.now < 2 ^ 32 }
     ensures { OnOk result (out.new.items ≡ out.old.items ++ changed_words about (drop 1 words.now) 1) }
 {

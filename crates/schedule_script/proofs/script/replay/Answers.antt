@@ -31,6 +31,6 @@ returns c =
     let z : About = c.in-Some-signal_header.about in
     let some : signal_header header.text ≡ Some z = sym c.signal_header.ensures.about ∙ c.in-Some-signal_header.is in
     let is : script_answer c.args.script.now ≡ answer_by sketch.ends (played sketch.begins sketch.steps (opening_moment (sketch.opening_sketch z)) rest) =
-        under_header c.args.script.now header rest c.in-Some.ensures.line ∙ ap (λ (o : Option About). answer_under header o rest) some ∙ sym (sketch_plays z rest) in
+    under_header c.args.script.now header rest c.in-Some.ensures.line ∙ ap (λ (o : Option About). answer_under header o rest) some ∙ sym (sketch_plays z rest) in
     let plays = rw (c.in_ok-new.ensures.opening, c.new-2.ensures.items) at c.play.ensures in
     rw is (replays (λ v. v.items) sketch.ends (played sketch.begins sketch.steps (opening_moment (sketch.opening_sketch z)) rest) c.play.result plays)

@@ -15,7 +15,7 @@ returns-then-not-branch g c =
     let line = numbered c.in-Some.line in
     let h : ComesTo (taken b s m line.text) false (moment_of c.take_line.new.self) = rw c.if-not-branch.true at c.in_ok-take_line.ensures.moved in
     rw (c.script.invariant.comes ∙ played-bad b s m (live c.script.lines.number (lines c.script.lines.rest.now)) (live c.next_line.new.self.number (lines c.next_line.new.self.rest.now)) line
-        c.in-Some.ensures.line (stayed (taken b s m line.text) (moment_of c.take_line.new.self) h)) refl
+    c.in-Some.ensures.line (stayed (taken b s m line.text) (moment_of c.take_line.new.self) h)) refl
 
 pub script-preserved : goal.script-preserved
 script-preserved g c =

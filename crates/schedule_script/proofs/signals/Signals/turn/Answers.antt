@@ -21,7 +21,7 @@ invariant_of-self c =
     let asks : b.ask ≡ Some c.args.ask = ap (λ (x : Backend). x.ask) is ∙ subst (λ (t : Sketch). (backend_at t own).ask ≡ Some c.args.ask) (sym c.self.view_is) c.requires.ask in
     let fits : BackendFits s.about.procs b = subst (λ (x : Backend). BackendFits s.about.procs x) (sym is) (c.self.invariant.each own) in
     let new : BackendFits s.about.procs c.went-next.result = subst (λ (x : Backend). BackendFits s.about.procs x)
-        (sym (c.went-next.ensures ∙ ap (λ (k : SigStep). went s.about k n b) c.step_at-step.ensures.step)) (went-fits s.about own n c.args.ask b c.self.invariant.procs.0 asks fits) in
+    (sym (c.went-next.ensures ∙ ap (λ (k : SigStep). went s.about k n b) c.step_at-step.ensures.step)) (went-fits s.about own n c.args.ask b c.self.invariant.procs.0 asks fits) in
     set-fits s c.number-2.result c.word-word.result c.becomes-left.result c.went-next.result c.self.invariant (omega (arith, c.number-2.ensures.number)) new
 
 pub returns-clause-turned : goal.returns-clause-turned
@@ -38,7 +38,7 @@ returns-clause-turned c =
     let inside : i < length s.words = let w = word-in s.about.procs own c.step_at-step.result below c.step_at-step.ensures.within in let e = c.word-word.ensures in let f = c.self.invariant.words in omega arith in
     let read : n ≡ get_or s.words i 0 = get_or_read s.words _ _ inside c.index-found.ensures 0 in
     let same : (let r : Sketch = record { about = s.about; words = set s.words i x; backends = set s.backends own c.went-next.result } in r ≡ (turn s own b c.args.ask).0) =
-        turned-by s own i n x c.args.ask b c.went-next.result c.step_at-step.result c.step_at-step.ensures.step c.word-word.ensures read c.becomes-left.ensures c.went-next.ensures in
+    turned-by s own i n x c.args.ask b c.went-next.result c.step_at-step.result c.step_at-step.ensures.step c.word-word.ensures read c.becomes-left.ensures c.went-next.ensures in
     on_ok c.push_turn.result _ (rw (← c.self.view_is, c.number-2.ensures.number) (rw is at same))
 
 pub returns-clause-text : goal.returns-clause-text
@@ -54,5 +54,5 @@ returns-clause-text c =
     let inside : i < length s.words = let w = word-in s.about.procs own c.step_at-step.result below c.step_at-step.ensures.within in let e = c.word-word.ensures in let f = c.self.invariant.words in omega arith in
     let read : n ≡ get_or s.words i 0 = get_or_read s.words _ _ inside c.index-found.ensures 0 in
     let same : told own c.args.ask c.step_at-step.result n b c.went-next.result ≡ (turn s own b c.args.ask).1 =
-        told-by s own i n c.args.ask b c.went-next.result c.step_at-step.result c.step_at-step.ensures.step c.word-word.ensures read c.went-next.ensures in
+    told-by s own i n c.args.ask b c.went-next.result c.step_at-step.result c.step_at-step.ensures.step c.word-word.ensures read c.went-next.ensures in
     rw (← c.self.view_is, ← is, ← same) c.push_turn.ensures
