@@ -34,7 +34,7 @@ just_most x (Some y) = by_test (eqb y x)
     by_test true = omega arith
     by_test false = omega arith
 
-both_here : (p x : ℕ) (own o : Option ℕ) → own ≡ Some p → both_are p x own o ≡ is_just x o
+pub both_here : (p x : ℕ) (own o : Option ℕ) → own ≡ Some p → both_are p x own o ≡ is_just x o
 both_here p x own o is = ap (λ (n : Option ℕ). both_are p x n o) is ∙ ap (λ (b : Bool). cond {A = ℕ} b (is_just x o) 0) (eq-eqb p p refl)
 
 pub both_else : (p q x : ℕ) (own o : Option ℕ) → own ≡ Some q → q ≢ p → both_are p x own o ≡ 0
