@@ -81,11 +81,7 @@ fn wait_until<P: Party, R: Wait>(
     ensures woke { (more : List Made) × (seat.new.view ≡ went seat.old.view (resumed (behind_wait begins seat.old.view.place)) more) × BeginsWait own begins until more × WasRead own result more }
     ensures only { until ≡ Latch → result ≡ LatchSet }
 {
-    if table
-        .step(seat, WaitStep::Sload(own, Some(begins)))
-        .old
-        == 1
-    {
+    if table.step(seat, WaitStep::Sload(own, Some(begins))).old == 1 {
         return Woke::LatchSet;
     }
     for _ in rt.forever() {

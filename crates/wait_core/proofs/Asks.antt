@@ -14,7 +14,7 @@ use Rattle.wait_core.specs.Ops.{op_at, op_gives}
 use Rattle.wait_core.specs.Words.{slot_of, client_base}
 use mathlib.Core.Option as maybe
 use lib.ListN.{get_elem?}
-use Rattle.wait_core.specs.Machine.{WaitState, number_of, word_of, becomes, home_in, slot_number, carried, act_of, left_at, next_with, Permits, Allowed}
+use Rattle.wait_core.specs.Machine.{WaitState, number_of, word_of, becomes, home_in, slot_number, carried, act_of, next_with, Permits, Allowed}
 use Rattle.wait_core.specs.Parties.{with_client, newcomer, joined, left_over, IsStep, IsDraw, IsJoin}
 use Rattle.wait_core.specs.Seating.{numbers_of, standing_of, party_of, client_moved, with_drawn, stays, comes, took_in, spent_view}
 use Rattle.wait_core.specs.Rule.{Rule}

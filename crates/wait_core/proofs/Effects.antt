@@ -14,9 +14,9 @@ use Rattle.wait_core.specs.declared.view.Size.{Size}
 use Rattle.wait_core.specs.declared.view.Job.{Job}
 use Rattle.wait_core.specs.declared.view.Job.TheVariants as job
 use Rattle.wait_core.specs.declared.view.Kept.{Kept}
-use Rattle.wait_core.specs.Jobs.{resumed, signals, rouses, rouses_on, goes_on}
-use Rattle.wait_core.specs.Lists.{is_empty, is_listed}
-use Rattle.wait_core.specs.Machine.{Place, Stand, top, outer, bit, begun, watching, reloaded, marked, woken, looked, drained, reset, entered, taken, spun, freed, place_then, MayBegin, MayReload, MayMark, MayWake, MayLook, MayDrain, MayReset, MayTake, MaySpin, MayFree, SetsLatchOf, WaitsForLatch, spot_for, takes_first, Permits}
+use Rattle.wait_core.specs.Jobs.{resumed, goes_on}
+use Rattle.wait_core.specs.Lists.{is_listed}
+use Rattle.wait_core.specs.Machine.{Place, top, outer, bit, begun, watching, reloaded, marked, woken, looked, drained, reset, entered, taken, spun, freed, place_then, MayBegin, MayReload, MayMark, MayWake, MayLook, MayDrain, MayReset, MayTake, MaySpin, MayFree, SetsLatchOf, WaitsForLatch, spot_for, takes_first, Permits}
 use Rattle.wait_core.specs.Places.{may_sleep, past_latch, past_shutdown, tells, stops}
 use Rattle.wait_core.specs.Fits.{BehindSet, BehindWait, BehindCancel, JobFits, Fits}
 

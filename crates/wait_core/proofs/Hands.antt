@@ -16,7 +16,7 @@ use Rattle.wait_core.specs.declared.view.Kept.{Kept}
 use Rattle.wait_core.specs.declared.view.Size.{Size}
 use Rattle.wait_core.specs.Words.{slot_of}
 use Rattle.wait_core.specs.Lists.{is_listed}
-use Rattle.wait_core.specs.Jobs.{condition_of, spot_of, resumed, goes_on}
+use Rattle.wait_core.specs.Jobs.{spot_of, resumed, goes_on}
 use Rattle.wait_core.specs.Machine.{Place, top, outer, begun, reloaded, marked, woken, looked, drained, reset, entered, taken, spun, freed, place_then, MayBegin, MayReload, MayMark, MayWake, MayLook, MayDrain, MayReset, MayTake, MaySpin, MayFree, takes_first, spot_for, Permits}
 use Rattle.wait_core.specs.Fits.{BehindSet, BehindWait, BehindCancel, JobFits, Fits}
 use Rattle.wait_core.specs.Stances.{hand_at, slot_in}

@@ -1,5 +1,5 @@
 -- What is taken in hand was at home, and its list holds backends of the table, each once.
-use Rattle.std.proofs.Common.{◌≡◌, ◌≢◌, ℕ, ◌+◌, ◌<◌, ◌≤◌, eqb, Bool, true, false, cond, List, length, map, get_or, Option, None, Some, refl, sym, ap, ◌∙◌, subst, arith, eqb-true}
+use Rattle.std.proofs.Common.{◌≡◌, ◌≢◌, ℕ, ◌+◌, ◌<◌, ◌≤◌, eqb, Bool, true, false, cond, List, map, get_or, Option, None, Some, refl, sym, ap, ◌∙◌, subst, arith, eqb-true}
 use mathlib.Core.Logic.{dite}
 use mathlib.Core.Option as maybe
 use native.Mathlib.Decide.{ℕ_discrete}
@@ -8,16 +8,16 @@ use Rattle.atomic_table.specs.Table.{Valid, keeps, takes}
 use Rattle.atomic_table.proofs.Lists.{at_map}
 use Rattle.seat_roster.specs.Totals.{total}
 use Rattle.seat_roster.specs.Roster.{Roster, times}
-use Rattle.seat_roster.proofs.Totals.{total_le, total_none}
+use Rattle.seat_roster.proofs.Totals.{total_none}
 use Rattle.seat_roster.proofs.Numbers.{own_inside}
 use Rattle.seat_roster.proofs.Stretches.{from_seen}
 use Rattle.wait_core.specs.declared.step.WaitStep.{WaitStep}
-use Rattle.wait_core.specs.declared.step.WaitStep.TheVariants.{Sload, Sset, Reset, Mstore, Mload, Byte, Look, Drain, Shload, Shstore, Take, Spin, Free}
+use Rattle.wait_core.specs.declared.step.WaitStep.TheVariants.{Take, Free}
 use Rattle.wait_core.specs.declared.view.Kept.{Kept}
 use Rattle.wait_core.specs.declared.view.Size.{Size}
 use Rattle.wait_core.specs.declared.view.WaitView.{WaitView}
 use Rattle.wait_core.specs.Words.{slot_of, spin_at}
-use Rattle.wait_core.specs.Lists.{is_listed, AllBelow}
+use Rattle.wait_core.specs.Lists.{is_listed}
 use Rattle.wait_core.specs.Machine.{Place, home_of, home_in, slot_number, word_of, act_of, Permits}
 use Rattle.wait_core.specs.Seating.{numbers_of}
 use Rattle.wait_core.specs.Stances.{Stance, Homes, stance_of, both_are, is_just, belongs_to}

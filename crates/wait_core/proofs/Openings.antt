@@ -1,5 +1,5 @@
 -- The table at its opening meets the rule.
-use Rattle.std.proofs.Common.{◌≡◌, ℕ, zero, suc, ◌+◌, ◌<◌, ◌≤◌, Bool, false, List, [], ◌∷◌, ◌++◌, length, map, drop, get_or, set, Option, None, Some, refl, sym, ap, ◌∙◌, subst, arith, length-append, length-set, get_or-set_same, get_or-set_other}
+use Rattle.std.proofs.Common.{◌≡◌, ℕ, zero, suc, ◌+◌, ◌<◌, ◌≤◌, Bool, false, List, [], ◌∷◌, ◌++◌, length, drop, get_or, set, Option, None, Some, refl, sym, ap, ◌∙◌, subst, arith, length-append, length-set, get_or-set_same, get_or-set_other}
 use Rattle.std.specs.Prelude.{replicate}
 use Rattle.std.proofs.lemmas.List.{length-replicate, length-map, get_or-replicate, get_or_append_left}
 use Rattle.std.proofs.Math.Seq.{drop-append_seam}
@@ -16,7 +16,7 @@ use Rattle.wait_core.specs.Parties.{newcomer, Barriers}
 use Rattle.wait_core.specs.Seating.{Standing, fresh}
 use Rattle.wait_core.specs.Places.{may_sleep, past_latch, past_shutdown, backend_count}
 use Rattle.wait_core.specs.Fits.{PlacesFit}
-use Rattle.wait_core.specs.Slots.{IsAsOpened, AllAsOpened, OpeningSlots}
+use Rattle.wait_core.specs.Slots.{OpeningSlots}
 use Rattle.wait_core.specs.LeftAreFree.{LeftAreFree}
 use Rattle.wait_core.specs.Barriers.{IsHere, attendance_of}
 use Rattle.wait_core.specs.Promises.{IsOpening}

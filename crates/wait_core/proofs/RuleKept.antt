@@ -1,5 +1,5 @@
 -- Each step of the machine keeps the whole rule.
-use Rattle.std.proofs.Common.{◌≡◌, ◌≢◌, ◌⊎◌, ℕ, ◌+◌, ◌<◌, ◌≤◌, eqb, Bool, true, false, cond, List, [], map, length, get_or, set, Option, None, Some, refl, sym, ap, ◌∙◌, subst, ⊎_elim, arith, length-set, get_or-set_same, get_or-set_other}
+use Rattle.std.proofs.Common.{◌≡◌, ◌≢◌, ◌⊎◌, ℕ, ◌+◌, ◌<◌, ◌≤◌, eqb, Bool, true, false, cond, List, map, length, get_or, set, Option, None, Some, refl, sym, ap, ◌∙◌, subst, ⊎_elim, arith, length-set, get_or-set_same, get_or-set_other}
 use Rattle.std.proofs.lemmas.List.{drop-set-lt}
 use mathlib.Core.Logic.{dite}
 use mathlib.Core.Option as maybe
@@ -20,9 +20,7 @@ use Rattle.seat_roster.specs.Roster.{Numbers, Roster, times_in, stands}
 use Rattle.wait_core.specs.Words.{byte_at, slot_of, client_base, phases}
 use Rattle.wait_core.specs.Machine.{WaitState, Place, top, left_at, list_of, place_then, number_of, word_of, becomes, home_in, slot_number, act_of, carried, next_with, Permits, Allowed, after}
 use Rattle.wait_core.specs.Seating.{Standing, numbers_of, standing_of, doings_of, party_of}
-use Rattle.wait_core.specs.Stances.{stance_of}
 use Rattle.wait_core.specs.Fits.{Fits, IsTarget, PlacesFit}
-use Rattle.wait_core.specs.ListsStand.{ListsStand}
 use Rattle.wait_core.specs.LeftAreFree.{LeftAreFree}
 use Rattle.wait_core.specs.Parties.{Barriers}
 use Rattle.wait_core.specs.Barriers.{attendance_of, IsHere, IdleAreHere}

@@ -1,7 +1,7 @@
 -- What a seat keeps at run time, and the slot that it has out.
-use Rattle.std.proofs.Common.{◌≡◌, ℕ, ◌+◌, ◌<◌, eqb, Bool, true, false, cond, List, [], ◌∷◌, Option, None, Some, refl, sym, ap, ◌∙◌, subst, arith, eq-eqb}
+use Rattle.std.proofs.Common.{◌≡◌, ℕ, eqb, Bool, true, false, cond, List, [], ◌∷◌, Option, None, Some, refl, sym, ap, ◌∙◌, subst, arith, eq-eqb}
 use Rattle.atomic_table.specs.Seated.{TableId}
-use Rattle.atomic_table.specs.Table.{Me, Act, keeps, takes, gives, carried_after, rest}
+use Rattle.atomic_table.specs.Table.{Me, keeps, takes, carried_after, rest}
 use Rattle.atomic_table.specs.declared.shared.Seat.{Seat}
 use Rattle.wait_core.specs.declared.step.WaitStep.{WaitStep}
 use Rattle.wait_core.specs.declared.step.WaitStep.TheVariants.{Take, Free}
@@ -9,8 +9,8 @@ use Rattle.wait_core.specs.declared.view.Kept.{Kept}
 use Rattle.wait_core.specs.declared.view.Record.{Record}
 use Rattle.wait_core.specs.declared.view.Size.{Size}
 use Rattle.wait_core.specs.declared.view.WaitView.{WaitView}
-use Rattle.wait_core.specs.Words.{byte_at, slot_of}
-use Rattle.wait_core.specs.Machine.{number_of, as_kept, left_at, target_then, slot_number, act_of, next_with, Allowed}
+use Rattle.wait_core.specs.Words.{slot_of}
+use Rattle.wait_core.specs.Machine.{as_kept, target_then, slot_number, act_of, next_with, Allowed}
 use Rattle.wait_core.specs.Stances.{Hand, hand_at, slot_in}
 use Rattle.wait_core.specs.Seats.{SeatView, Carries, IsSeated}
 use Rattle.wait_core.specs.Sending.{SendsHome, HasSlot, IsTaking, IsFreeing, IsApart}

@@ -7,7 +7,6 @@ use lib.ListN.{get_elem?}
 use lib.Seq.{map-set}
 use Rattle.atomic_table.proofs.Lists.{at_map}
 use Rattle.wait_core.specs.declared.step.WaitStep.{WaitStep}
-use Rattle.wait_core.specs.declared.view.Inherited.{Inherited}
 use Rattle.wait_core.specs.declared.view.Made.{Made}
 use Rattle.wait_core.specs.declared.view.Size.{Size}
 use Rattle.seat_roster.specs.WordsAreMade.{signed as signed_by, AreMade}

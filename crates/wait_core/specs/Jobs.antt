@@ -1,7 +1,7 @@
 -- What a spin word is taken for: which word, what its free makes of the list, of the seat's target and of whether it heeds its signal, and how the program goes on.
 use Rattle.std.specs.Prelude.{ℕ, ◌==◌, Bool, true, false, cond, List, [], ◌∷◌, ◌++◌, Option, None, Some}
 use Rattle.wait_core.specs.declared.step.Spot.{Spot}
-use Rattle.wait_core.specs.declared.step.Spot.TheVariants.{Cv, Bar}
+use Rattle.wait_core.specs.declared.step.Spot.TheVariants.{Cv}
 use Rattle.wait_core.specs.declared.view.Job.{Job}
 use Rattle.wait_core.specs.declared.view.Job.TheVariants as job
 use Rattle.wait_core.specs.declared.view.Frame.{Frame}

@@ -1,5 +1,4 @@
 -- The list in hand is lent.
-use Rattle.std.specs.Borrow.{Lends, MutBor, Fml}
 use Rattle.wait_core.specs.declared.seat.WaitList.{WaitList}
 use Rattle.wait_core.specs.Seats.{SeatView}
 

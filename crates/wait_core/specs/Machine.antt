@@ -13,7 +13,6 @@ use Rattle.wait_core.specs.declared.step.WaitStep.{WaitStep}
 use Rattle.wait_core.specs.declared.step.WaitStep.TheVariants.{Sload, Sset, Reset, Mstore, Mload, Byte, Look, Drain, Shload, Shstore, Take, Spin, Free}
 use Rattle.wait_core.specs.declared.view.Frame.{Frame}
 use Rattle.wait_core.specs.declared.view.Frame.TheVariants.{Setting, Telling, Waking, Announcing, Rechecking, CheckingShutdown, Looking, Asleep, Retracting, Draining, Repeating, LeavingSet, LeavingShutdown, Stopping, Taking, Spinning, Holding, Resetting, SleepWaiting, Preparing, Broadcasting, Signalling, Rousing}
-use Rattle.wait_core.specs.declared.view.Job.{Job}
 use Rattle.wait_core.specs.declared.view.Job.TheVariants as job
 use Rattle.wait_core.specs.declared.view.Made.{Made}
 use Rattle.wait_core.specs.declared.view.Kept.{Kept}
@@ -21,7 +20,7 @@ use Rattle.wait_core.specs.declared.view.Record.{Record}
 use Rattle.wait_core.specs.declared.view.Size.{Size}
 use Rattle.wait_core.specs.declared.view.WaitView.{WaitView}
 use Rattle.wait_core.specs.Words.{set_at, may_at, byte_at, shut_at, slot_of, spin_at}
-use Rattle.wait_core.specs.Jobs.{condition_of, spot_of, left_list, target_after, heeds_after, resumed, goes_on}
+use Rattle.wait_core.specs.Jobs.{spot_of, left_list, target_after, heeds_after, resumed, goes_on}
 
 -- the words, what is at home in the slots, and one view per seat
 abbrev pub WaitState : Type 0 → Type 0

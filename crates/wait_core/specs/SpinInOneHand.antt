@@ -1,7 +1,6 @@
 -- A spin word is 1 exactly where one seat has in hand what it guards.
-use Rattle.std.specs.Prelude.{◌≡◌, ℕ, List, Some}
+use Rattle.std.specs.Prelude.{◌≡◌, ℕ, List}
 use mathlib.Core.Option as maybe
-use lib.ListN.{get_elem?}
 use Rattle.wait_core.specs.declared.view.Kept.{Kept}
 use Rattle.seat_roster.specs.Totals.{total}
 use Rattle.wait_core.specs.Stances.{Stance, has_list}

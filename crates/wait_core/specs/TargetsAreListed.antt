@@ -1,5 +1,5 @@
 -- A backend is on at most one condition's list, once, and that condition is its target, or it is broadcasting on it.
-use Rattle.std.specs.Prelude.{◌≡◌, ℕ, ◌<◌, ◌≤◌, List, Some}
+use Rattle.std.specs.Prelude.{ℕ, ◌<◌, ◌≤◌, List}
 use Rattle.seat_roster.specs.Totals.{total}
 use Rattle.wait_core.specs.Stances.{Stance, Homes, times_on, belongs_to}
 
