@@ -6,9 +6,9 @@ use Rattle.wait_core.specs.declared.step.Until.TheVariants.{Latch, LatchOrShutdo
 use Rattle.wait_core.specs.declared.step.Spot.{Spot}
 use Rattle.wait_core.specs.declared.step.Spot.TheVariants.{Cv}
 use Rattle.wait_core.specs.declared.step.WaitStep.{WaitStep}
-use Rattle.wait_core.specs.declared.step.WaitStep.TheVariants.{Sload, Sset, Mload, Byte, Take, Spin, Free}
+use Rattle.wait_core.specs.declared.step.WaitStep.TheVariants.{Sload, Sset, Mload, Byte, Reset, Take, Spin, Free}
 use Rattle.wait_core.specs.declared.view.Frame.{Frame}
-use Rattle.wait_core.specs.declared.view.Frame.TheVariants.{Taking, Spinning, Holding, SleepWaiting, Preparing, Signalling, Rousing}
+use Rattle.wait_core.specs.declared.view.Frame.TheVariants.{Taking, Spinning, Holding, Resetting, SleepWaiting, Preparing, Signalling, Rousing}
 use Rattle.wait_core.specs.declared.view.Job.{Job}
 use Rattle.wait_core.specs.declared.view.Job.TheVariants as job
 use Rattle.wait_core.specs.declared.view.Kept.{Kept}
@@ -20,14 +20,14 @@ use Rattle.std.specs.Prelude.{not}
 use Rattle.seat_roster.specs.Roster.{times}
 use Rattle.wait_core.specs.Jobs.{spot_of, left_list, target_after, heeds_after, resumed, goes_on, signals, rouses, rouses_on}
 use Rattle.wait_core.specs.Lists.{AllBelow, is_empty, is_listed, rest_of}
-use Rattle.wait_core.specs.Machine.{Place, top, outer, number_of, made, made_with, as_kept, left_at, entered, taken, spun, next, next_with, takes_first, spot_for, SetsLatchOf, WaitsForLatch, MayBegin, MayTake, MaySpin, Permits}
+use Rattle.wait_core.specs.Machine.{Place, top, outer, number_of, made, made_with, as_kept, left_at, entered, reset, taken, spun, next, next_with, takes_first, spot_for, SetsLatchOf, WaitsForLatch, MayBegin, MayTake, MaySpin, Permits}
 use Rattle.wait_core.specs.Seats.{SeatView}
 use Rattle.wait_core.specs.Stances.{belongs_at}
 use Rattle.wait_core.specs.Told.{TellsList}
 use Rattle.wait_core.proofs.Lists.{listed_there}
 use Rattle.latch.specs.Reads.{went, HasSet}
 use Rattle.condition_variable.specs.Visits.{OnlySpins, Takes, SetsLatch, MayWakeNow, after_wake, entering, head_of, stands, with_items}
-use Rattle.condition_variable.specs.Calls.{IsListing, other}
+use Rattle.condition_variable.specs.Calls.{GoesOn, IsListing, UntilOff, other}
 
 -- PLACES
 pub may_enter : (x : Spot) (j : Job) (q : Place) → top q ≡ Some (Taking j) → spot_of j ≡ x → MayTake x (top q)
@@ -259,3 +259,19 @@ next_ends c own (q ∷ l) p once = by_head (q == own) once
     by_head : (b : Bool) → cond b 1 0 + times own l ≤ 1 → after_wake (cond b None (Some q)) (cond b (resumed p) (Rousing c q (is_listed own l) ∷ p)) ≡ cond (is_listed own l) (Taking (job.Rebroadcast c) ∷ p) (resumed p)
     by_head true h = ap (λ (b : Bool). cond b (Taking (job.Rebroadcast c) ∷ p) (resumed p)) (sym (off h (is_listed own l) refl))
     by_head false h = refl
+
+pub goes_none : (own c : ℕ) (l : List ℕ) → not (is_empty l) ≡ false → GoesOn own c l []
+goes_none own c [] e = refl
+goes_none own c (q ∷ l) e = absurd (cc)
+
+pub goes_others : (own c : ℕ) (l : List ℕ) (more : List Made) → not (is_empty l) ≡ true → UntilOff own c more → GoesOn own c l more
+goes_others own c [] more e rounds = absurd (cc)
+goes_others own c (q ∷ l) more e rounds = rounds
+
+-- a reset in a sleep
+pub reset_on : {C : Type 0} (z : Size) (v x : WaitView C) (c n : ℕ) (k : Kept) → x ≡ next_with z (Reset None) v n k → v.place ≡ Resetting c ∷ outer v.place → x ≡ went v (Taking (job.Resleep c) ∷ outer v.place) (made (Reset None) n ∷ [])
+reset_on z v x c n k is at = is ∙ ap (λ (p : Place). went v (reset p) (made (Reset None) n ∷ [])) at
+
+pub looked_on : {C : Type 0} (v : WaitView C) (c : ℕ) (p : Place) (h b r : Bool) (more : List Made) → r ≡ not b → stands v (cond b (SleepWaiting c ∷ p) (resumed p)) (Some c) (cond b h true) more ≡ stands v (cond r (resumed p) (SleepWaiting c ∷ p)) (Some c) (cond r true h) more
+looked_on v c p h true r more is = ap (λ (x : Bool). stands v (cond x (resumed p) (SleepWaiting c ∷ p)) (Some c) (cond x true h) more) (sym is)
+looked_on v c p h false r more is = ap (λ (x : Bool). stands v (cond x (resumed p) (SleepWaiting c ∷ p)) (Some c) (cond x true h) more) (sym is)

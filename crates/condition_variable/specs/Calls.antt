@@ -76,17 +76,23 @@ abbrev pub GoesOn : ℕ → ℕ → List ℕ → List Made → Type 0
 GoesOn own c [] more = more ≡ []
 GoesOn own c (q ∷ others) more = UntilOff own c more
 
--- The backend left the list of its target, if it had one. It popped the head of that of c, and went behind the others where any remained; it woke the popped; and where others remained it made rounds until it was off the list
-pub record Broadcasts (own c : ℕ) (target : Option ℕ) (more : List Made) : Type 0 where
-  pub leave : List Made
+-- The head of the list of c was popped and woken, and the backend went behind the others where any remained: then it made rounds until it was off the list
+pub record RousesAll (own c : ℕ) (begins : Option Call) (more : List Made) : Type 0 where
   pub first : List Made
   pub rounds : List Made
-  pub next : Option Call
   pub found : List ℕ
-  pub split : more ≡ leave ++ (first ++ rounds)
-  pub leaves : Leaves own target (call.Broadcast c) next leave
-  pub rouses : Rouses c next found (signed own found) None (head_of found) first
+  pub split : more ≡ first ++ rounds
+  pub rouses : Rouses c begins found (signed own found) None (head_of found) first
   pub goes : GoesOn own c (rest_of found) rounds
+
+-- the backend left the list of its target, if it had one, and woke all who were on that of c
+pub record Broadcasts (own c : ℕ) (target : Option ℕ) (more : List Made) : Type 0 where
+  pub leave : List Made
+  pub all : List Made
+  pub next : Option Call
+  pub split : more ≡ leave ++ all
+  pub leaves : Leaves own target (call.Broadcast c) next leave
+  pub rouses : RousesAll own c next all
 
 -- SLEEP. After a signal the backend goes to the end of the list again
 abbrev pub relisted : ℕ → List ℕ → List ℕ

@@ -13,7 +13,7 @@ ghost use Rattle.wait_core.specs.Machine.{Allowed, MayBegin, number_of, outer, t
 ghost use Rattle.wait_core.specs.Seats.{size_of};
 ghost use Rattle.latch.specs.Reads.{went};
 ghost use Rattle.condition_variable.specs.Visits.{Rouses, entering, head_of, stands};
-ghost use Rattle.condition_variable.specs.Calls.{Broadcasts, Round, UntilOff, signed};
+ghost use Rattle.condition_variable.specs.Calls.{Broadcasts, Round, RousesAll, UntilOff, signed};
 
 use crate::list::{is_on, join_others, other_than_own, pop, take_list, wake};
 use crate::prepare::leave_target;
@@ -38,16 +38,35 @@ pub fn broadcast<P: Party, R: Wait>(
     ensures woken { (more : List Made) × (seat.new.view ≡ stands seat.old.view (resumed seat.old.view.place) None seat.old.view.heeds more) × Broadcasts (number_of seat.old.view.own) cv seat.old.view.target more }
 {
     let begins = Call::Broadcast(cv);
-    let others = match seat.target() {
-        None => rouse_first(rt, table, seat, cv, Some(begins)),
+    match seat.target() {
+        None => rouse_all(rt, table, seat, cv, Some(begins)),
         Some(target) => {
             leave_target(rt, table, seat, target, begins);
-            rouse_first(rt, table, seat, cv, None)
+            rouse_all(rt, table, seat, cv, None);
         }
-    };
-    if others {
-        rouse_others(rt, table, seat, cv);
     }
+}
+
+// Wakes all, once there is no target.
+fn rouse_all<P: Party, R: Wait>(
+    rt: &R,
+    table: &WaitTable<P>,
+    seat: &mut WaitSeat<P>,
+    cv: CvNo,
+    begins: Option<Call>,
+)
+    requires table { seat.old.table_id ≡ table.now.table_id }
+    requires condition { cv < table.now.cvs }
+    requires target { seat.old.view.target ≡ None }
+    requires place { Allowed (size_of table.now) (kind.Take (Cv cv) begins) seat.old.view }
+    requires job { top (entering begins seat.old.view.target seat.old.view.place) ≡ Some (Taking (job.Broadcast cv)) }
+    ensures table { (seat.new.table_id ≡ seat.old.table_id) × (seat.new.id ≡ seat.old.id) }
+    ensures roused { (more : List Made) × (seat.new.view ≡ went seat.old.view (resumed (outer (entering begins seat.old.view.target seat.old.view.place))) more) × RousesAll (number_of seat.old.view.own) cv begins more }
+{
+    if !rouse_first(rt, table, seat, cv, begins) {
+        return;
+    }
+    rouse_others(rt, table, seat, cv);
 }
 
 // Pops the first and wakes it. Whether others remained: then this backend stands behind them.
