@@ -275,3 +275,11 @@ reset_on z v x c n k is at = is ∙ ap (λ (p : Place). went v (reset p) (made (
 pub looked_on : {C : Type 0} (v : WaitView C) (c : ℕ) (p : Place) (h b r : Bool) (more : List Made) → r ≡ not b → stands v (cond b (SleepWaiting c ∷ p) (resumed p)) (Some c) (cond b h true) more ≡ stands v (cond r (resumed p) (SleepWaiting c ∷ p)) (Some c) (cond r true h) more
 looked_on v c p h true r more is = ap (λ (x : Bool). stands v (cond x (resumed p) (SleepWaiting c ∷ p)) (Some c) (cond x true h) more) (sym is)
 looked_on v c p h false r more is = ap (λ (x : Bool). stands v (cond x (resumed p) (SleepWaiting c ∷ p)) (Some c) (cond x true h) more) (sym is)
+
+pub not_off : (b r : Bool) → r ≡ not b → r ≡ true → b ≡ false
+not_off true r is on = cc
+not_off false r is on = refl
+
+pub not_on : (b r : Bool) → r ≡ not b → r ≡ false → b ≡ true
+not_on true r is on = refl
+not_on false r is on = cc
