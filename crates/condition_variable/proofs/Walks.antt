@@ -1,0 +1,285 @@
+-- The view of a seat along the taking, the change and the sending home of a list.
+use Rattle.std.proofs.Common.{◌≡◌, ◌≢◌, ◌⊎◌, ℕ, ◌+◌, ◌<◌, ◌≤◌, ◌==◌, Bool, true, false, cond, List, [], ◌∷◌, ◌++◌, length, append-nil, append_assoc, Option, None, Some, refl, sym, ap, ◌∙◌, subst, inl, inr, arith, ne_eqb}
+use Rattle.wait_core.specs.declared.step.Call.{Call}
+use Rattle.wait_core.specs.declared.step.Call.TheVariants as call
+use Rattle.wait_core.specs.declared.step.Until.TheVariants.{Latch, LatchOrShutdown}
+use Rattle.wait_core.specs.declared.step.Spot.{Spot}
+use Rattle.wait_core.specs.declared.step.Spot.TheVariants.{Cv}
+use Rattle.wait_core.specs.declared.step.WaitStep.{WaitStep}
+use Rattle.wait_core.specs.declared.step.WaitStep.TheVariants.{Sload, Sset, Mload, Byte, Reset, Take, Spin, Free}
+use Rattle.wait_core.specs.declared.view.Frame.{Frame}
+use Rattle.wait_core.specs.declared.view.Frame.TheVariants.{Taking, Spinning, Holding, Resetting, SleepWaiting, Preparing, Signalling, Rousing}
+use Rattle.wait_core.specs.declared.view.Job.{Job}
+use Rattle.wait_core.specs.declared.view.Job.TheVariants as job
+use Rattle.wait_core.specs.declared.view.Kept.{Kept}
+use Rattle.wait_core.specs.declared.view.Made.{Made}
+use Rattle.wait_core.specs.declared.view.Record.{Record}
+use Rattle.wait_core.specs.declared.view.Size.{Size}
+use Rattle.wait_core.specs.declared.view.WaitView.{WaitView}
+use Rattle.std.specs.Prelude.{not}
+use Rattle.seat_roster.specs.Roster.{times}
+use Rattle.wait_core.specs.Jobs.{spot_of, left_list, target_after, heeds_after, resumed, goes_on, signals, rouses, rouses_on}
+use Rattle.wait_core.specs.Lists.{AllBelow, is_empty, is_listed, rest_of}
+use Rattle.wait_core.specs.Machine.{Place, top, outer, number_of, made, made_with, as_kept, left_at, entered, reset, taken, spun, next, next_with, takes_first, spot_for, SetsLatchOf, WaitsForLatch, MayBegin, MayTake, MaySpin, Permits}
+use Rattle.wait_core.specs.Seats.{SeatView}
+use Rattle.wait_core.specs.Stances.{belongs_at}
+use Rattle.wait_core.specs.Told.{TellsList}
+use Rattle.wait_core.proofs.Lists.{listed_there}
+use Rattle.latch.specs.Reads.{went, HasSet}
+use Rattle.condition_variable.specs.Visits.{OnlySpins, Takes, SetsLatch, MayWakeNow, after_wake, entering, head_of, stands, with_items}
+use Rattle.condition_variable.specs.Calls.{GoesOn, IsListing, UntilOff, other}
+
+-- PLACES
+pub may_enter : (x : Spot) (j : Job) (q : Place) → top q ≡ Some (Taking j) → spot_of j ≡ x → MayTake x (top q)
+may_enter x j q is at = subst (λ (f : Option Frame). MayTake x f) (sym is) at
+
+pub may_take_again : (x : Spot) (p : Place) → MaySpin x (top p) → MayTake x (top (spun true p))
+may_take_again x [] ok = ok
+may_take_again x (Spinning j ∷ p) ok = ok
+may_take_again x (f ∷ p) ok = absurd ok
+
+pub spun_still : (x : Spot) (p : Place) → MaySpin x (top p) → spun false p ≡ p
+spun_still x [] ok = refl
+spun_still x (Spinning j ∷ p) ok = refl
+spun_still x (f ∷ p) ok = absurd ok
+
+pub taken_still : (x : Spot) (k : Kept) (p : Place) → MaySpin x (top p) → taken false k (spun true p) ≡ p
+taken_still x k [] ok = absurd ok
+taken_still x k (Spinning j ∷ p) ok = refl
+taken_still x k (f ∷ p) ok = absurd ok
+
+pub may_wait : (x : Spot) (k : Kept) (q : Place) → MayTake x (top q) → MaySpin x (top (taken false k q))
+may_wait x k [] ok = absurd ok
+may_wait x k (Taking j ∷ p) ok = ok
+may_wait x k (f ∷ p) ok = absurd ok
+
+pub waited : (x : Spot) (k : Kept) (q : Place) → MayTake x (top q) → spun true (taken false k q) ≡ q
+waited x k [] ok = absurd ok
+waited x k (Taking j ∷ p) ok = refl
+waited x k (f ∷ p) ok = absurd ok
+
+-- a call that takes a spin word first begins where nothing is behind it
+none_set : (t : Option ℕ) (b : Call) (q : ℕ) (x : Spot) → spot_for (takes_first t b) ≡ Some x → SetsLatchOf q b → ⊥
+none_set None (call.Set r) q x e m = cc
+none_set (Some c) (call.Set r) q x e m = cc
+none_set t b q x e m = absurd m
+
+none_wait : (t : Option ℕ) (b : Call) (x : Spot) → spot_for (takes_first t b) ≡ Some x → WaitsForLatch b → ⊥
+none_wait None (call.Wait Latch) x e m = cc
+none_wait (Some c) (call.Wait Latch) x e m = cc
+none_wait t b x e m = absurd m
+
+pub idle : (t : Option ℕ) (b : Call) (p : Place) (x : Spot) → spot_for (takes_first t b) ≡ Some x → MayBegin b p → p ≡ []
+idle t b [] x e m = refl
+idle t b (Signalling c q ∷ p) x e m = absurd (none_set t b q x e m)
+idle t b (Rousing c q more ∷ p) x e m = absurd (none_set t b q x e m)
+idle t b (SleepWaiting c ∷ p) x e m = absurd (none_wait t b x e m)
+idle t b (f ∷ p) x e m = absurd m
+
+-- STEPS
+module _ {C : Type 0} where
+  pub went_none : (v : WaitView C) → v ≡ went v v.place []
+  went_none v = ap (λ (l : List Made). record v { steps = l }) (sym (append-nil v.steps))
+
+  -- the first swap of a spin word
+  pub takes_on : (z : Size) (v x : WaitView C) (c : ℕ) (b : Option Call) (n m : ℕ) (k : Kept) → x ≡ next_with z (Take (Cv c) b) v n k → n ≡ m → x ≡ went v (taken (m == 0) k (entering b v.target v.place)) (made_with (Take (Cv c) b) m (cond (m == 0) k.list.items []) ∷ [])
+  takes_on z v x c None n m k is at = is ∙ ap (λ (i : ℕ). next_with z (Take (Cv c) None) v i k) at
+  takes_on z v x c (Some b) n m k is at = is ∙ ap (λ (i : ℕ). next_with z (Take (Cv c) (Some b)) v i k) at
+
+  -- a load of it, and another swap, after more steps
+  pub spins_on : (z : Size) (v w x : WaitView C) (p : Place) (more : List Made) (c n m : ℕ) (k : Kept) → w ≡ went v p more → x ≡ next_with z (Spin (Cv c)) w n k → n ≡ m → x ≡ went v (spun (m == 0) p) (more ++ made (Spin (Cv c)) m ∷ [])
+  spins_on z v w x p more c n m k was is at = is ∙ (ap (λ (y : WaitView C). next_with z (Spin (Cv c)) y n k) was ∙ (ap (λ (i : ℕ). next_with z (Spin (Cv c)) (went v p more) i k) at ∙ ap (λ (l : List Made). record v { place = spun (m == 0) p; steps = l }) (append_assoc v.steps more (made (Spin (Cv c)) m ∷ []))))
+
+  pub swaps_on : (z : Size) (v w x : WaitView C) (p : Place) (more : List Made) (c n m : ℕ) (k : Kept) → w ≡ went v p more → x ≡ next_with z (Take (Cv c) None) w n k → n ≡ m → x ≡ went v (taken (m == 0) k p) (more ++ made_with (Take (Cv c) None) m (cond (m == 0) k.list.items []) ∷ [])
+  swaps_on z v w x p more c n m k was is at = is ∙ (ap (λ (y : WaitView C). next_with z (Take (Cv c) None) y n k) was ∙ (ap (λ (i : ℕ). next_with z (Take (Cv c) None) (went v p more) i k) at ∙ ap (λ (l : List Made). record v { place = taken (m == 0) k p; steps = l }) (append_assoc v.steps more (made_with (Take (Cv c) None) m (cond (m == 0) k.list.items []) ∷ []))))
+
+pub spins_append : (c : ℕ) (a b : List Made) → OnlySpins c a → OnlySpins c b → OnlySpins c (a ++ b)
+spins_append c [] b ha hb = hb
+spins_append c (m ∷ a) b ha hb = (ha.0, spins_append c a b ha.1 hb)
+
+-- A VISIT. The list was taken for the job j, changed as the job says, and is sent home
+module _ {C : Type 0} (z : Size) (v : WaitView C) (c : ℕ) (j : Job) (q : Place) (enters : top q ≡ Some (Taking j)) (s u : SeatView C) (took : List Made) (was : s.view ≡ went v (taken true (as_kept s.list s.record) q) took) (changed : u ≡ with_items s (left_list j (number_of s.view.own) s.list)) where
+  at_job : (r : Place) → top r ≡ Some (Taking j) → r ≡ Taking j ∷ outer r
+  at_job [] e = absurd (cc)
+  at_job (f ∷ r) e = ap (λ (g : Frame). g ∷ r) (cc)
+
+  own_is : number_of s.view.own ≡ number_of v.own
+  own_is = ap (λ (y : WaitView C). number_of y.own) was
+
+  in_hand : u.view ≡ went v (Holding j s.list s.record ∷ outer q) took
+  in_hand = ap (λ (y : SeatView C). y.view) changed ∙ (was ∙ ap (λ (y : Place). went v (taken true (as_kept s.list s.record) y) took) (at_job q enters))
+
+  list_is : u.list ≡ left_list j (number_of v.own) s.list
+  list_is = ap (λ (y : SeatView C). y.list) changed ∙ ap (λ (o : ℕ). left_list j o s.list) own_is
+
+  pub may_free : (after : Option ℕ) → spot_of j ≡ Cv c → after ≡ target_after j v.target → c < z.cvs → Permits z (Free (Cv c) after) u.view.own u.view.target u.view.place
+  may_free after at then below = subst (λ (y : WaitView C). Permits z (Free (Cv c) after) y.own y.target y.place) (sym in_hand) (omega arith, (at, then))
+
+  pub sends : as_kept u.list u.record ≡ left_at (number_of u.view.own) u.view.place
+  sends = (λ i. as_kept (list_is i) (changed i).record) ∙ ap (λ (y : WaitView C). left_at (number_of y.own) y.place) (sym in_hand)
+
+  pub visited : (x : WaitView C) (after : Option ℕ) (n : ℕ) (k : Kept) → x ≡ next_with z (Free (Cv c) after) u.view n k → x ≡ stands v (goes_on j (number_of v.own) s.list (outer q)) after (heeds_after j (number_of v.own) s.list v.heeds) (took ++ made_with (Free (Cv c) after) n (left_list j (number_of v.own) s.list) ∷ [])
+  visited x after n k is = is ∙ (ap (λ (y : WaitView C). next_with z (Free (Cv c) after) y n k) in_hand
+      ∙ ap (λ (l : List Made). record v { place = goes_on j (number_of v.own) s.list (outer q); steps = l; target = after; heeds = heeds_after j (number_of v.own) s.list v.heeds }) (append_assoc v.steps took (made_with (Free (Cv c) after) n (left_list j (number_of v.own) s.list) ∷ [])))
+
+-- WHO IS WOKEN
+pub all_wide : (n m : ℕ) (l : List ℕ) → n ≤ m → AllBelow n l → AllBelow m l
+all_wide n m [] le all = tt
+all_wide n m (x ∷ l) le all = let h = all.0 in (omega arith, all_wide n m l le all.1)
+
+pub rest_short : (l : List ℕ) → length l ≤ 64 → length (rest_of l) < 64
+rest_short [] le = omega arith
+rest_short (x ∷ l) le = omega arith
+
+pub room_for : (z : Size) (own : ℕ) (belongs : Option ℕ) (x : ℕ) (l : List ℕ) → TellsList z own belongs x l → belongs ≡ None → z.procs ≤ 64 → length l < 64
+room_for z own belongs x l t none few = by_listed (is_listed own l) refl
+  where
+    by_listed : (b : Bool) → is_listed own l ≡ b → length l < 64
+    by_listed false e = let h = t.room e in omega arith
+    by_listed true e = absurd (let h = t.mine e in cc)
+
+pub signal_wakes : (procs c : ℕ) (l : List ℕ) (p : Place) → AllBelow procs l → MayWakeNow procs (head_of l) (signals c l p)
+signal_wakes procs c [] p all = tt
+signal_wakes procs c (q ∷ l) p all = (all.0, refl)
+
+pub signal_ends : (c : ℕ) (l : List ℕ) (p : Place) → after_wake (head_of l) (signals c l p) ≡ resumed p
+signal_ends c [] p = refl
+signal_ends c (q ∷ l) p = refl
+
+-- the steps of a set latch
+in_four : (a b c d : List Made) → ((a ++ b) ++ c) ++ d ≡ a ++ (b ++ (c ++ d))
+in_four a b c d = simp append_assoc
+
+in_five : (a b c d e : List Made) → (((a ++ b) ++ c) ++ d) ++ e ≡ a ++ (b ++ (c ++ (d ++ e)))
+in_five a b c d e = simp append_assoc
+
+module _ {C : Type 0} where
+  pub latch_set : (z : Size) (q : ℕ) (v w : WaitView C) → HasSet z q v w → (more : List Made) × (w ≡ went v (resumed v.place) more) × SetsLatch q more
+  latch_set z q v w h = by_end h.stepped
+    where
+      by_end : (w ≡ next z (Sload q (Some (call.Set q))) v 1) ⊎ (((n : ℕ) × (w ≡ next z (Mload q) (next z (Sset q) (next z (Sload q (Some (call.Set q))) v 0) n) 0)) ⊎ ((n m : ℕ) × (w ≡ next z (Byte q) (next z (Mload q) (next z (Sset q) (next z (Sload q (Some (call.Set q))) v 0) n) 1) m)))
+          → (more : List Made) × (w ≡ went v (resumed v.place) more) × SetsLatch q more
+      by_end (inl is) = (made (Sload q (Some (call.Set q))) 1 ∷ [], is, inl refl)
+      by_end (inr (inl (n, is))) = (made (Sload q (Some (call.Set q))) 0 ∷ made (Sset q) n ∷ made (Mload q) 0 ∷ [], is ∙ ap (λ (l : List Made). record v { place = resumed v.place; steps = l }) (in_four v.steps (made (Sload q (Some (call.Set q))) 0 ∷ []) (made (Sset q) n ∷ []) (made (Mload q) 0 ∷ [])), inr (inl (n, refl)))
+      by_end (inr (inr (n, m, is))) = (made (Sload q (Some (call.Set q))) 0 ∷ made (Sset q) n ∷ made (Mload q) 1 ∷ made (Byte q) m ∷ [], is ∙ ap (λ (l : List Made). record v { place = resumed v.place; steps = l }) (in_five v.steps (made (Sload q (Some (call.Set q))) 0 ∷ []) (made (Sset q) n ∷ []) (made (Mload q) 1 ∷ []) (made (Byte q) m ∷ [])), inr (inr (n, m, refl)))
+
+-- a word that is at most 1 and is not 0
+pub swapped_set : (n : ℕ) → n ≤ 1 → (n ≡ 0 → ⊥) → n ≡ 1
+swapped_set n most set = omega (arith, most, set)
+
+-- what a list tells whoever takes it, where the call begins with that
+pub tells_first : (z : Size) (own c : ℕ) (o t : Option ℕ) (b : Option Call) (p : Place) (l : List ℕ) → Permits z (Take (Cv c) b) o t p → TellsList z own (belongs_at t p) c l → TellsList z own (belongs_at t (entering b t p)) c l
+tells_first z own c o t None p l ok tells = tells
+tells_first z own c o (Some d) (Some b) p l ok tells = record { all = tells.all; few = tells.few; once = tells.once; mine = tells.mine; room = tells.room }
+tells_first z own c o None (Some b) p l ok tells = record { all = tells.all; few = tells.few; once = tells.once; mine = λ on. absurd (nowhere (tells.mine on)); room = tells.room }
+  where
+    nowhere : belongs_at None p ≡ Some c → ⊥
+    nowhere e = let none : belongs_at None p ≡ None = ap (λ (r : Place). belongs_at None r) (idle None b p (Cv c) ok.1 ok.3) in cc
+
+pub belongs_nowhere : (c : ℕ) (t : Option ℕ) (q : Place) → top q ≡ Some (Taking (job.Prepare c)) → t ≡ None → belongs_at t q ≡ None
+belongs_nowhere c t [] at none = absurd (cc)
+belongs_nowhere c t (f ∷ p) at none = (λ i. belongs_at (none i) (is i ∷ p))
+  where
+    is : f ≡ Taking (job.Prepare c)
+    is = cc
+
+pub signal_enters : (c : ℕ) (t : Option ℕ) (p : Place) → top (entering (Some (call.Signal c)) t p) ≡ Some (Taking (job.Signal c))
+signal_enters c None p = refl
+signal_enters c (Some d) p = refl
+
+pub signal_behind : (c : ℕ) (t : Option ℕ) (p : Place) → outer (entering (Some (call.Signal c)) t p) ≡ p
+signal_behind c None p = refl
+signal_behind c (Some d) p = refl
+
+-- a visit after another
+pub stands_through : {C : Type 0} (v w x : WaitView C) (p r : Place) (t u : Option ℕ) (h k : Bool) (more rest : List Made) → w ≡ stands v p t h more → x ≡ stands w r u k rest → x ≡ stands v r u k (more ++ rest)
+stands_through v w x p r t u h k more rest was is = is ∙ (ap (λ (y : WaitView _). stands y r u k rest) was ∙ ap (λ (l : List Made). record v { place = r; steps = l; target = u; heeds = k }) (append_assoc v.steps more rest))
+
+-- whom the visit popped was woken after it
+pub roused : {C : Type 0} (v w x : WaitView C) (p r : Place) (t : Option ℕ) (h : Bool) (o : Option ℕ) (visit sets : List Made) → w ≡ stands v p t h visit → x ≡ went w (after_wake o w.place) sets → after_wake o p ≡ r → x ≡ stands v r t h (visit ++ sets)
+roused v w x p r t h o visit sets was is ends = is ∙ (ap (λ (y : WaitView _). went y (after_wake o y.place) sets) was ∙ (λ i. record v { place = ends i; steps = append_assoc v.steps visit sets i; target = t; heeds = h }))
+
+pub signal_first : (c : ℕ) (t : Option ℕ) → takes_first t (call.Signal c) ≡ Some c
+signal_first c None = refl
+signal_first c (Some d) = refl
+
+-- a call that leaves the list of its target first
+pub cancel_first : (t : Option ℕ) → takes_first t call.Cancel ≡ t
+cancel_first None = refl
+cancel_first (Some d) = refl
+
+other_first : (d c : ℕ) → Some d ≢ Some c → takes_first (Some d) (call.Sleep c) ≡ Some d
+other_first d c ne = ap (λ (b : Bool). cond {A = Option ℕ} b None (Some d)) (ne_eqb d c (λ e. ne (ap (λ (n : ℕ). Some n) e)))
+
+pub listing_begins : (z : Size) (c d : ℕ) (o t : Option ℕ) (b : Call) (p : Place) → IsListing c t b → t ≡ Some d → d < z.cvs → c < z.cvs → MayBegin b p → Permits z (Take (Cv d) (Some b)) o t p
+listing_begins z c d o t (call.Prepare e) p is at inside below may = subst (λ (x : Option ℕ). Permits z (Take (Cv d) (Some (call.Prepare e))) o x p) (sym at) (omega arith, refl, omega (arith, is), may)
+listing_begins z c d o t (call.Sleep e) p is at inside below may = subst (λ (x : Option ℕ). Permits z (Take (Cv d) (Some (call.Sleep e))) o x p) (sym at) (omega arith, ap spot_for (other_first d e (λ same. is.1 (at ∙ (same ∙ ap (λ (n : ℕ). Some n) is.0)))), omega (arith, is.0), may)
+listing_begins z c d o t b p is at inside below may = absurd is
+
+pub listing_joins : (z : Size) (c : ℕ) (o t : Option ℕ) (b : Call) (p : Place) → IsListing c t b → t ≡ None → c < z.cvs → MayBegin b p → Permits z (Take (Cv c) (Some b)) o t p
+listing_joins z c o t (call.Prepare e) p is at below may = subst (λ (x : Option ℕ). Permits z (Take (Cv c) (Some (call.Prepare e))) o x p) (sym at) (omega arith, ap (λ (n : ℕ). spot_for (Some n)) is, omega (arith, is), may)
+listing_joins z c o t (call.Sleep e) p is at below may = subst (λ (x : Option ℕ). Permits z (Take (Cv c) (Some (call.Sleep e))) o x p) (sym at) (omega arith, ap (λ (n : ℕ). spot_for (Some n)) is.0, omega (arith, is.0), may)
+listing_joins z c o t b p is at below may = absurd is
+
+pub listing_leaves_at : (c d : ℕ) (t : Option ℕ) (b : Call) (p : Place) → IsListing c t b → t ≡ Some d → entering (Some b) t p ≡ Taking (job.Cancel d) ∷ Preparing c ∷ p
+listing_leaves_at c d t (call.Prepare e) p is at = ap (λ (x : Option ℕ). entering (Some (call.Prepare e)) x p) at ∙ ap (λ (n : ℕ). Taking (job.Cancel d) ∷ Preparing n ∷ p) is
+listing_leaves_at c d t (call.Sleep e) p is at = ap (λ (x : Option ℕ). entering (Some (call.Sleep e)) x p) at ∙ ap (λ (n : ℕ). Taking (job.Cancel d) ∷ Preparing n ∷ p) is.0
+listing_leaves_at c d t b p is at = absurd is
+
+pub listing_joins_at : (c : ℕ) (t : Option ℕ) (b : Call) (p : Place) → IsListing c t b → t ≡ None → entering (Some b) t p ≡ Taking (job.Prepare c) ∷ p
+listing_joins_at c t (call.Prepare e) p is at = ap (λ (x : Option ℕ). entering (Some (call.Prepare e)) x p) at ∙ ap (λ (n : ℕ). Taking (job.Prepare n) ∷ p) is
+listing_joins_at c t (call.Sleep e) p is at = ap (λ (x : Option ℕ). entering (Some (call.Sleep e)) x p) at ∙ ap (λ (n : ℕ). Taking (job.Prepare n) ∷ p) is.0
+listing_joins_at c t b p is at = absurd is
+
+pub rouse_wakes : (procs c : ℕ) (l : List ℕ) (p : Place) → AllBelow procs l → MayWakeNow procs (head_of l) (rouses c l p)
+rouse_wakes procs c [] p all = tt
+rouse_wakes procs c (q ∷ l) p all = (all.0, refl)
+
+pub rouse_ends : (c : ℕ) (l : List ℕ) (p : Place) → after_wake (head_of l) (rouses c l p) ≡ cond (not (is_empty (rest_of l))) (Taking (job.Rebroadcast c) ∷ p) (resumed p)
+rouse_ends c [] p = refl
+rouse_ends c (q ∷ []) p = refl
+rouse_ends c (q ∷ x ∷ l) p = refl
+
+pub next_wakes : (procs c own : ℕ) (l : List ℕ) (p : Place) → AllBelow procs l → MayWakeNow procs (other own (head_of l)) (rouses_on c own l p)
+next_wakes procs c own [] p all = tt
+next_wakes procs c own (q ∷ l) p all = by_head (q == own)
+  where
+    by_head : (b : Bool) → MayWakeNow procs (cond b None (Some q)) (cond b (resumed p) (Rousing c q (is_listed own l) ∷ p))
+    by_head true = tt
+    by_head false = (all.0, refl)
+
+pub next_ends : (c own : ℕ) (l : List ℕ) (p : Place) → times own l ≤ 1 → after_wake (other own (head_of l)) (rouses_on c own l p) ≡ cond (is_listed own (rest_of l)) (Taking (job.Rebroadcast c) ∷ p) (resumed p)
+next_ends c own [] p once = refl
+next_ends c own (q ∷ l) p once = by_head (q == own) once
+  where
+    off : 1 + times own l ≤ 1 → (b : Bool) → is_listed own l ≡ b → is_listed own l ≡ false
+    off h false e = e
+    off h true e = absurd (let there = listed_there own l e in omega arith)
+
+    by_head : (b : Bool) → cond b 1 0 + times own l ≤ 1 → after_wake (cond b None (Some q)) (cond b (resumed p) (Rousing c q (is_listed own l) ∷ p)) ≡ cond (is_listed own l) (Taking (job.Rebroadcast c) ∷ p) (resumed p)
+    by_head true h = ap (λ (b : Bool). cond b (Taking (job.Rebroadcast c) ∷ p) (resumed p)) (sym (off h (is_listed own l) refl))
+    by_head false h = refl
+
+pub goes_none : (own c : ℕ) (l : List ℕ) → not (is_empty l) ≡ false → GoesOn own c l []
+goes_none own c [] e = refl
+goes_none own c (q ∷ l) e = absurd (cc)
+
+pub goes_others : (own c : ℕ) (l : List ℕ) (more : List Made) → not (is_empty l) ≡ true → UntilOff own c more → GoesOn own c l more
+goes_others own c [] more e rounds = absurd (cc)
+goes_others own c (q ∷ l) more e rounds = rounds
+
+-- a reset in a sleep
+pub reset_on : {C : Type 0} (z : Size) (v x : WaitView C) (c n : ℕ) (k : Kept) → x ≡ next_with z (Reset None) v n k → v.place ≡ Resetting c ∷ outer v.place → x ≡ went v (Taking (job.Resleep c) ∷ outer v.place) (made (Reset None) n ∷ [])
+reset_on z v x c n k is at = is ∙ ap (λ (p : Place). went v (reset p) (made (Reset None) n ∷ [])) at
+
+pub looked_on : {C : Type 0} (v : WaitView C) (c : ℕ) (p : Place) (h b r : Bool) (more : List Made) → r ≡ not b → stands v (cond b (SleepWaiting c ∷ p) (resumed p)) (Some c) (cond b h true) more ≡ stands v (cond r (resumed p) (SleepWaiting c ∷ p)) (Some c) (cond r true h) more
+looked_on v c p h true r more is = ap (λ (x : Bool). stands v (cond x (resumed p) (SleepWaiting c ∷ p)) (Some c) (cond x true h) more) (sym is)
+looked_on v c p h false r more is = ap (λ (x : Bool). stands v (cond x (resumed p) (SleepWaiting c ∷ p)) (Some c) (cond x true h) more) (sym is)
+
+pub not_off : (b r : Bool) → r ≡ not b → r ≡ true → b ≡ false
+not_off true r is on = cc
+not_off false r is on = refl
+
+pub not_on : (b r : Bool) → r ≡ not b → r ≡ false → b ≡ true
+not_on true r is on = refl
+not_on false r is on = cc

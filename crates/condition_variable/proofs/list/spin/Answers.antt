@@ -1,0 +1,31 @@
+use Rattle.std.proofs.Common.{ℕ, false, true, List, [], ◌∷◌, ◌++◌, refl, sym, ap, ◌∙◌, subst, arith}
+use Rattle.wait_core.specs.Seats.{size_of}
+use Rattle.wait_core.specs.declared.step.Spot.TheVariants.{Cv}
+use Rattle.wait_core.specs.declared.step.WaitStep.TheVariants.{Spin}
+use Rattle.wait_core.specs.declared.view.WaitView.{WaitView}
+use Rattle.wait_core.specs.declared.view.Made.{Made}
+use Rattle.wait_core.specs.Machine.{Permits, as_kept, made}
+use Rattle.latch.specs.Reads.{went}
+use Rattle.latch.proofs.Walks.{clear_or_set}
+use Rattle.condition_variable.proofs.Walks.{went_none, spins_on, spins_append, spun_still, swapped_set}
+use Rattle.condition_variable.proofs.list.spin.Goals as goal
+
+pub loop-init : goal.loop-init
+loop-init g c = (refl, refl, ([], went_none c.args.seat.now.view, tt))
+
+pub step-requires-clause-place : goal.step-requires-clause-place
+step-requires-clause-place g c = λ _ _. subst (λ (y : WaitView _). Permits (size_of c.args.table.now) (Spin (Cv c.args.cv)) y.own y.target y.place) (sym c.loop.invariant.2.1) (omega (arith, c.requires.condition), c.requires.place)
+
+pub returns-then-step-eq0-clause-view : goal.returns-then-step-eq0-clause-view
+returns-then-step-eq0-clause-view g c =
+    let v = c.args.seat.now.view in
+    let inv = c.loop.invariant.2 in
+    (inv.0 ++ made (Spin (Cv c.args.cv)) 0 ∷ [], spins_on (size_of c.args.table.now) v _ _ v.place inv.0 c.args.cv _ 0 (as_kept c.step.new.seat.list c.step.new.seat.record) inv.1 c.step.ensures.view c.if-step-eq0.true, spins_append c.args.cv inv.0 _ inv.2 (refl, tt))
+
+pub loop-preserved : goal.loop-preserved
+loop-preserved g c =
+    let v = c.args.seat.now.view in
+    let inv = c.loop.invariant.2 in
+    let more : List Made = inv.0 ++ made (Spin (Cv c.args.cv)) 1 ∷ [] in
+    let on = spins_on (size_of c.args.table.now) v _ _ v.place inv.0 c.args.cv _ 1 (as_kept c.step.new.seat.list c.step.new.seat.record) inv.1 c.step.ensures.view (swapped_set c.step.result.old c.step.ensures.told c.if-step-eq0.false) in
+    ((cc), (cc), (more, on ∙ ap (λ p. went v p more) (spun_still (Cv c.args.cv) v.place c.requires.place), spins_append c.args.cv inv.0 _ inv.2 (refl, tt)))

@@ -1,0 +1,26 @@
+use Rattle.std.proofs.Common.{◌≡◌, ℕ, true, List, [], ◌∷◌, ◌++◌, Option, None, Some, append_assoc, refl, sym, ap, ◌∙◌, subst, arith}
+use Rattle.wait_core.specs.declared.step.Spot.TheVariants.{Cv}
+use Rattle.wait_core.specs.declared.view.Job.TheVariants as job
+use Rattle.wait_core.specs.declared.view.Made.{Made}
+use Rattle.wait_core.specs.declared.view.WaitView.{WaitView}
+use Rattle.wait_core.specs.Lists.{is_listed, without, rest_of}
+use Rattle.wait_core.specs.Machine.{Place, as_kept, number_of}
+use Rattle.wait_core.specs.Seats.{SeatView, size_of}
+use Rattle.condition_variable.specs.Visits.{entering, stands, with_items}
+use Rattle.condition_variable.proofs.Walks.{may_enter, may_free, sends, visited}
+use Rattle.condition_variable.proofs.prepare.leave_target.Goals as goal
+
+pub take_list-requires-clause-job : goal.take_list-requires-clause-job
+take_list-requires-clause-job g c = λ _ _. may_enter (Cv c.args.target) (job.Cancel c.args.target) (entering (Some c.args.begins) c.args.seat.now.view.target c.args.seat.now.view.place) (c.requires.job) refl
+
+pub step-requires-clause-place : goal.step-requires-clause-place
+step-requires-clause-place g c = λ _ _. may_free (size_of c.args.table.now) c.args.seat.now.view c.args.target (job.Cancel c.args.target) (entering (Some c.args.begins) c.args.seat.now.view.target c.args.seat.now.view.place) (c.requires.job) c.take_list.new.seat c.leave-off.new.seat c.take_list.ensures.view.0 c.take_list.ensures.view.1 (c.leave-off.ensures.seat) (None) refl refl c.requires.target.1
+
+pub step-requires-clause-hand : goal.step-requires-clause-hand
+step-requires-clause-hand g c = λ _ _. sends (size_of c.args.table.now) c.args.seat.now.view c.args.target (job.Cancel c.args.target) (entering (Some c.args.begins) c.args.seat.now.view.target c.args.seat.now.view.place) (c.requires.job) c.take_list.new.seat c.leave-off.new.seat c.take_list.ensures.view.0 c.take_list.ensures.view.1 (c.leave-off.ensures.seat)
+
+pub returns-clause-left : goal.returns-clause-left
+returns-clause-left g c =
+    let v = c.args.seat.now.view in
+    let own : number_of c.take_list.new.seat.view.own ≡ number_of v.own = ap (λ (y : WaitView _). number_of y.own) c.take_list.ensures.view.1 in
+    (c.take_list.new.seat.list, _, visited (size_of c.args.table.now) c.args.seat.now.view c.args.target (job.Cancel c.args.target) (entering (Some c.args.begins) c.args.seat.now.view.target c.args.seat.now.view.place) (c.requires.job) c.take_list.new.seat c.leave-off.new.seat c.take_list.ensures.view.0 c.take_list.ensures.view.1 (c.leave-off.ensures.seat) c.step.new.seat.view None _ (as_kept c.step.new.seat.list c.step.new.seat.record) c.step.ensures.view, record { took = c.take_list.ensures.view.0; word = c.step.result.old; split = refl; takes = c.take_list.ensures.view.2 }, c.leave-off.ensures.off ∙ ap (λ (o : ℕ). Rattle.std.specs.Prelude.not (is_listed o c.take_list.new.seat.list)) own)

@@ -1,0 +1,230 @@
+//! A condition's list: how it is taken in hand, and what a call makes of it.
+ghost use Rattle.std.specs.Prelude.{◌≡◌, ◌≤◌, ◌<◌, List, [], ◌∷◌, ◌++◌, None, true, false, not, cond, length};
+ghost use Rattle.wait_core.specs.declared.step.Spot.TheVariants.{Cv};
+ghost use Rattle.wait_core.specs.declared.step.WaitStep.TheVariants as kind;
+ghost use Rattle.wait_core.specs.declared.view.Made.{Made};
+ghost use Rattle.wait_core.specs.Lists.{AllBelow, is_empty, is_listed, rest_of, without};
+ghost use Rattle.wait_core.specs.Machine.{Allowed, MaySpin, MayTake, as_kept, made_with, number_of, spun, taken, top};
+ghost use Rattle.wait_core.specs.Seats.{size_of};
+ghost use Rattle.wait_core.specs.Stances.{belongs_at};
+ghost use Rattle.wait_core.specs.Told.{TellsList};
+ghost use Rattle.latch.specs.Reads.{went};
+ghost use Rattle.condition_variable.specs.Visits.{MayWakeNow, OnlySpins, Takes, Wakes, after_wake, entering, head_of, with_items};
+ghost use Rattle.condition_variable.specs.Calls.{other, relisted};
+
+use arrayvec::ArrayVec;
+use crossbeam_utils::Backoff;
+use latch::set_latch;
+use proc_table::{CvNo, ProcNo};
+use std::sync::Wait;
+use wait_core::{Call, Party, Spot, WaitSeat, WaitStep, WaitTable};
+
+// Takes the condition's list in hand. A call may begin with it.
+pub(crate) fn take_list<P: Party, R: Wait>(
+    rt: &R,
+    table: &WaitTable<P>,
+    seat: &mut WaitSeat<P>,
+    cv: CvNo,
+    begins: Option<Call>,
+)
+    requires table { seat.old.table_id ≡ table.now.table_id }
+    requires place { Allowed (size_of table.now) (kind.Take (Cv cv) begins) seat.old.view }
+    requires condition { cv < table.now.cvs }
+    requires job { MayTake (Cv cv) (top (entering begins seat.old.view.target seat.old.view.place)) }
+    ensures table { (seat.new.table_id ≡ seat.old.table_id) × (seat.new.id ≡ seat.old.id) }
+    ensures view { (more : List Made) × (seat.new.view ≡ went seat.old.view (taken true (as_kept seat.new.list seat.new.record) (entering begins seat.old.view.target seat.old.view.place)) more) × Takes cv begins seat.new.list more }
+    ensures list { TellsList (size_of table.now) (number_of seat.old.view.own) (belongs_at seat.old.view.target (entering begins seat.old.view.target seat.old.view.place)) cv seat.new.list }
+    ensures few { table.now.procs ≤ 64 }
+{
+    let _procs = table.procs();
+    let take = WaitStep::Take(Spot::Cv(cv), begins);
+    if table.step(seat, take).old == 0 {
+        return;
+    }
+    wait_for_list(rt, table, seat, cv);
+}
+
+// The same, once it was found in another's hand.
+fn wait_for_list<P: Party, R: Wait>(
+    rt: &R,
+    table: &WaitTable<P>,
+    seat: &mut WaitSeat<P>,
+    cv: CvNo,
+)
+    requires table { seat.old.table_id ≡ table.now.table_id }
+    requires condition { cv < table.now.cvs }
+    requires place { MaySpin (Cv cv) (top seat.old.view.place) }
+    ensures table { (seat.new.table_id ≡ seat.old.table_id) × (seat.new.id ≡ seat.old.id) }
+    ensures view { (spins : List Made) × (seat.new.view ≡ went seat.old.view (taken true (as_kept seat.new.list seat.new.record) (spun true seat.old.view.place)) (spins ++ made_with (kind.Take (Cv cv) None) 0 seat.new.list ∷ [])) × OnlySpins cv spins }
+    ensures list { TellsList (size_of table.now) (number_of seat.old.view.own) (belongs_at seat.old.view.target (spun true seat.old.view.place)) cv seat.new.list }
+{
+    let backoff = Backoff::new();
+    for _ in rt.forever() {
+        spin(rt, table, seat, cv, &backoff);
+        let take = WaitStep::Take(Spot::Cv(cv), None);
+        if table.step(seat, take).old == 0 {
+            return;
+        }
+    }
+    unreachable!()
+}
+
+// Loads the spin word until it is free.
+fn spin<P: Party, R: Wait>(
+    rt: &R,
+    table: &WaitTable<P>,
+    seat: &mut WaitSeat<P>,
+    cv: CvNo,
+    backoff: &Backoff,
+)
+    requires table { seat.old.table_id ≡ table.now.table_id }
+    requires condition { cv < table.now.cvs }
+    requires place { MaySpin (Cv cv) (top seat.old.view.place) }
+    ensures table { (seat.new.table_id ≡ seat.old.table_id) × (seat.new.id ≡ seat.old.id) }
+    ensures view { (spins : List Made) × (seat.new.view ≡ went seat.old.view (spun true seat.old.view.place) spins) × OnlySpins cv spins }
+{
+    for _ in rt.forever() {
+        backoff.snooze();
+        if table.step(seat, WaitStep::Spin(Spot::Cv(cv))).old == 0 {
+            return;
+        }
+    }
+    unreachable!()
+}
+
+fn has(list: &[u32], proc: u32) -> bool
+    ensures { result ≡ is_listed proc list.now }
+{
+    for item in list {
+        if *item == proc {
+            return true;
+        }
+    }
+    false
+}
+
+fn take_off(list: &mut ArrayVec<u32, 64>, proc: u32)
+    ensures { list.new.items ≡ without proc list.old.items }
+{
+    let mut rest = ArrayVec::new();
+    for item in list.as_slice() {
+        if *item != proc {
+            rest.push(*item);
+        }
+    }
+    *list = rest;
+}
+
+fn own_number<P: Party>(seat: &WaitSeat<P>) -> u32
+    ensures { result ≡ number_of seat.now.view.own }
+{
+    seat.proc().number()
+}
+
+// Takes this backend off the list in hand. Whether it was off it already.
+pub(crate) fn leave<P: Party>(seat: &mut WaitSeat<P>) -> bool
+    ensures seat { seat.new ≡ with_items seat.old (without (number_of seat.old.view.own) seat.old.list) }
+    ensures off { result ≡ not (is_listed (number_of seat.old.view.own) seat.old.list) }
+{
+    let own = own_number(seat);
+    let list = seat.list();
+    let listed = has(list.items.as_slice(), own);
+    take_off(&mut list.items, own);
+    !listed
+}
+
+// Puts this backend at the end of the list in hand.
+pub(crate) fn join<P: Party>(seat: &mut WaitSeat<P>)
+    requires room { length seat.old.list < 64 }
+    ensures { seat.new ≡ with_items seat.old (seat.old.list ++ number_of seat.old.view.own ∷ []) }
+{
+    let own = own_number(seat);
+    seat.list().items.push(own);
+}
+
+// The same where it isn't on the list. Whether it wasn't.
+pub(crate) fn rejoin<P: Party>(seat: &mut WaitSeat<P>) -> bool
+    requires room { is_listed (number_of seat.old.view.own) seat.old.list ≡ false → length seat.old.list < 64 }
+    ensures seat { seat.new ≡ with_items seat.old (relisted (number_of seat.old.view.own) seat.old.list) }
+    ensures off { result ≡ not (is_listed (number_of seat.old.view.own) seat.old.list) }
+{
+    let own = own_number(seat);
+    let list = seat.list();
+    if has(list.items.as_slice(), own) {
+        return false;
+    }
+    list.items.push(own);
+    true
+}
+
+// Puts this backend behind whoever is on the list in hand. Whether anybody is.
+pub(crate) fn join_others<P: Party>(seat: &mut WaitSeat<P>) -> bool
+    requires room { length seat.old.list < 64 }
+    ensures seat { seat.new ≡ with_items seat.old (cond (is_empty seat.old.list) [] (seat.old.list ++ number_of seat.old.view.own ∷ [])) }
+    ensures others { result ≡ not (is_empty seat.old.list) }
+{
+    let own = own_number(seat);
+    let list = seat.list();
+    if list.items.is_empty() {
+        return false;
+    }
+    list.items.push(own);
+    true
+}
+
+// Whether this backend is on the list in hand.
+pub(crate) fn is_on<P: Party>(seat: &mut WaitSeat<P>) -> bool
+    ensures seat { seat.new ≡ seat.old }
+    ensures listed { result ≡ is_listed (number_of seat.old.view.own) seat.old.list }
+{
+    let own = own_number(seat);
+    has(seat.list().items.as_slice(), own)
+}
+
+// Takes the first off the list in hand.
+pub(crate) fn pop<P: Party>(seat: &mut WaitSeat<P>) -> Option<ProcNo>
+    requires below { AllBelow 64 seat.old.list }
+    ensures seat { seat.new ≡ with_items seat.old (rest_of seat.old.list) }
+    ensures head { result ≡ head_of seat.old.list }
+{
+    let list = seat.list();
+    if list.items.is_empty() {
+        return None;
+    }
+    ProcNo::new(list.items.remove(0))
+}
+
+// The popped backend, unless it is this one.
+pub(crate) fn other_than_own<P: Party>(
+    seat: &WaitSeat<P>,
+    popped: Option<ProcNo>,
+) -> Option<ProcNo>
+    ensures { result ≡ other (number_of seat.now.view.own) popped }
+{
+    let own = own_number(seat);
+    match popped {
+        Some(proc) if proc.number() != own => Some(proc),
+        _ => None,
+    }
+}
+
+// Sets the latch of whom the seat popped, if anybody. Who it was.
+pub(crate) fn wake<P: Party>(
+    table: &WaitTable<P>,
+    seat: &mut WaitSeat<P>,
+    woken: Option<ProcNo>,
+) -> Option<ProcNo>
+    requires table { seat.old.table_id ≡ table.now.table_id }
+    requires place { MayWakeNow table.now.procs woken seat.old.view.place }
+    ensures table { (seat.new.table_id ≡ seat.old.table_id) × (seat.new.id ≡ seat.old.id) }
+    ensures woken { (more : List Made) × (seat.new.view ≡ went seat.old.view (after_wake woken seat.old.view.place) more) × Wakes woken more }
+    ensures who { result ≡ woken }
+{
+    match woken {
+        None => None,
+        Some(proc) => {
+            set_latch(table, seat, proc);
+            Some(proc)
+        }
+    }
+}
