@@ -10,13 +10,14 @@ pub mod SpinInOneHand
 pub mod TargetsAreListed
 pub mod SignalIsKept
 pub mod Turning
+pub mod WordsAreMade
+pub mod ListsAreMade
 pub mod ListsKept
 pub mod Fitting
 pub mod Hands
 pub mod InHand
 pub mod RuleKept
 pub mod Untouched
-pub mod WordsAreMade
 pub mod BarriersKept
 pub mod SeatsKept
 pub mod Openings

@@ -6,25 +6,30 @@ use lib.ListN.{get_elem?}
 use lib.Seq.{map-set}
 use Rattle.atomic_table.specs.Table.{homes_after}
 use Rattle.atomic_table.proofs.Lists.{at_map}
+use Rattle.wait_core.specs.declared.step.Spot.{Spot}
 use Rattle.wait_core.specs.declared.step.WaitStep.{WaitStep}
+use Rattle.wait_core.specs.declared.step.WaitStep.TheVariants.{Sload, Sset, Reset, Mstore, Mload, Byte, Look, Drain, Shload, Shstore, Take, Spin, Free}
+use Rattle.wait_core.specs.declared.view.Frame.TheVariants.{Holding}
 use Rattle.wait_core.specs.declared.view.Kept.{Kept}
 use Rattle.wait_core.specs.declared.view.Size.{Size}
 use Rattle.wait_core.specs.declared.view.WaitView.{WaitView}
 use Rattle.seat_roster.specs.Roster.{Roster}
 use Rattle.seat_roster.proofs.Stretches.{unseen}
-use Rattle.wait_core.specs.Words.{spin_at, client_base}
-use Rattle.wait_core.specs.Machine.{Place, home_in, slot_number, word_of, becomes, act_of, carried, Permits, next_with}
+use Rattle.wait_core.specs.Words.{slot_of, spin_at, client_base}
+use Rattle.wait_core.specs.Jobs.{condition_of}
+use Rattle.wait_core.specs.Machine.{Place, top, home_of, home_in, slot_number, word_of, becomes, act_of, carried, IsSpot, MayFree, Permits, next_with}
 use Rattle.wait_core.specs.Seating.{numbers_of}
 use Rattle.wait_core.specs.Fits.{Fits}
 use Rattle.wait_core.specs.Slots.{AllAsOpened, OpeningSlots}
-use Rattle.wait_core.specs.Stances.{Stance, Homes, stance_of, home_amount}
+use Rattle.wait_core.specs.Stances.{Stance, Homes, hand_at, stance_of, home_amount}
 use Rattle.wait_core.specs.ListsStand.{ListsStand}
 use Rattle.wait_core.specs.Rule.{Flags}
 use Rattle.seat_roster.specs.Roster.{times}
 use Rattle.wait_core.proofs.Turns.{IsStill, Turn, stays, idle}
 use Rattle.wait_core.proofs.Turning.{stance, no_heeds, view_turns}
 use Rattle.wait_core.proofs.Owning.{Alone, alone_stances, both_none}
-use Rattle.wait_core.proofs.SpinInOneHand.{SpinsAreFlags, hands_turn, hands_more, hands_idle}
+use Rattle.wait_core.proofs.ListsAreMade.{Finds}
+use Rattle.wait_core.proofs.SpinInOneHand.{SpinsAreFlags, home_out, hands_turn, hands_more, hands_idle}
 use Rattle.wait_core.proofs.TargetsAreListed.{listed_turn, listed_more, listed_idle}
 use Rattle.wait_core.proofs.SignalIsKept.{signals_turn, signals_more, signals_idle}
 
@@ -66,6 +71,21 @@ module _ {C : Type 0} (z : Size) (next : ℕ) (words : List ℕ) (homes : Homes)
   module _ (id : ℕ) (v : WaitView C) (at : get_elem? views id ≡ maybe.some v) where
     there : get_elem? (map stance_of views) id ≡ maybe.some (stance_of v)
     there = at_map stance_of views id v at
+
+    taken : (x : ℕ) → x < z.cvs + z.bars → get_or words (spin_at z x) 0 ≡ 0 → get_elem? homes x ≡ maybe.some (maybe.some (home_in homes x))
+    taken x inside clear = let home = (stand.hands x inside).at_home clear in home.1 ∙ ap (λ (k : Kept). maybe.some (maybe.some k)) (sym (ap home_of home.1))
+
+    freed : (x : Spot) (after : Option ℕ) (p : Place) → v.place ≡ p → IsSpot z x → MayFree x after v.target (top p) → get_elem? homes (slot_of z x) ≡ maybe.some maybe.none
+    freed x after (Holding j list found ∷ p) is inside ok = subst (λ (y : Spot). IsSpot z y → get_elem? homes (slot_of z y) ≡ maybe.some maybe.none) ok.0
+        (λ low. home_out z words homes (map stance_of views) wide spins stand.hands id (condition_of j) (stance_of v) list there low (ap hand_at is)) inside
+    freed x after p is inside ok = absurd ok
+
+    -- a list that is taken was at home, one that goes home was out
+    pub lists_found : (o : ℕ) (k : WaitStep) → Permits z k (Some o) v.target v.place → Finds z k (get_or words (word_of z o k) 0) (home_in homes (slot_number z k)) homes
+    lists_found o (Take x (Some b)) ok = taken (slot_of z x) ok.0
+    lists_found o (Take x None) ok = taken (slot_of z x) ok.0
+    lists_found o (Free x after) ok = freed x after v.place refl ok.0 ok.1
+    lists_found o k ok = tt
 
     -- a step of the machine
     pub lists_step : (o : ℕ) → v.own ≡ Some o → o < z.procs → (k : WaitStep) → Permits z k (Some o) v.target v.place → Fits z.cvs v.target v.place → get_or words (word_of z o k) 0 ≤ 1

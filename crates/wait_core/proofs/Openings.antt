@@ -23,6 +23,7 @@ use Rattle.wait_core.specs.Promises.{IsOpening}
 use Rattle.wait_core.specs.Rule.{Rule}
 use Rattle.seat_roster.proofs.Numbers.{roster_first}
 use Rattle.seat_roster.proofs.Stretches.{each_more}
+use Rattle.wait_core.proofs.ListsAreMade.{lists_made_open}
 use Rattle.wait_core.proofs.ListsKept.{lists_open}
 use Rattle.wait_core.proofs.BarriersKept.{barriers_more}
 use Rattle.wait_core.proofs.Untouched.{idle, idle_backend, places_snoc}
@@ -80,6 +81,7 @@ module _ {C : Type 0} (holds : List ℕ → List (PartyView C) → List ℕ → 
     latches = λ p below come up. let a = none_there p past_latch refl in absurd (omega arith);
     shutdown = λ p below come up. let a = none_there p past_shutdown refl in absurd (omega arith);
     made = λ i above below. let a = zero_at i above below in omega arith;
+    lists_made = lists_made_open z phase xs (Some 0) new.count new.each;
     lists = lists_open z phase (opening_words z f count) xs zero_at new;
     left = only_numbered;
     barriers = barriers_more [] (phases z phase) c (Some 0) nobody;

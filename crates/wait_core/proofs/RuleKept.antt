@@ -1,5 +1,5 @@
 -- Each step of the machine keeps the whole rule.
-use Rattle.std.proofs.Common.{◌≡◌, ◌≢◌, ◌⊎◌, ℕ, ◌+◌, ◌<◌, ◌≤◌, eqb, Bool, true, false, cond, List, map, length, get_or, set, Option, None, Some, refl, sym, ap, ◌∙◌, subst, ⊎_elim, arith, length-set, get_or-set_same, get_or-set_other}
+use Rattle.std.proofs.Common.{◌≡◌, ◌≢◌, ◌⊎◌, ℕ, ◌+◌, ◌<◌, ◌≤◌, eqb, Bool, true, false, cond, List, [], ◌∷◌, ◌++◌, map, length, get_or, set, Option, None, Some, refl, sym, ap, ◌∙◌, subst, ⊎_elim, arith, length-set, get_or-set_same, get_or-set_other}
 use Rattle.std.proofs.lemmas.List.{drop-set-lt}
 use mathlib.Core.Logic.{dite}
 use mathlib.Core.Option as maybe
@@ -18,7 +18,7 @@ use Rattle.wait_core.specs.declared.view.WaitView.{WaitView}
 use Rattle.seat_roster.specs.Totals.{total}
 use Rattle.seat_roster.specs.Roster.{Numbers, Roster, times_in, stands}
 use Rattle.wait_core.specs.Words.{byte_at, slot_of, client_base, phases}
-use Rattle.wait_core.specs.Machine.{WaitState, Place, top, left_at, list_of, place_then, number_of, word_of, becomes, home_in, slot_number, act_of, carried, next_with, Permits, Allowed, after}
+use Rattle.wait_core.specs.Machine.{WaitState, Place, top, left_at, list_of, made_with, place_then, number_of, word_of, becomes, home_in, slot_number, act_of, carried, next_with, Permits, Allowed, after}
 use Rattle.wait_core.specs.Seating.{Standing, numbers_of, standing_of, doings_of, party_of}
 use Rattle.wait_core.specs.Fits.{Fits, IsTarget, PlacesFit}
 use Rattle.wait_core.specs.LeftAreFree.{LeftAreFree}
@@ -33,7 +33,9 @@ use Rattle.wait_core.proofs.Counts.{owns, bit_le}
 use Rattle.wait_core.proofs.Effects.{Effect, effect}
 use Rattle.wait_core.proofs.Untouched.{idle}
 use Rattle.wait_core.proofs.Fitting.{fits_after, target_kept}
-use Rattle.wait_core.proofs.ListsKept.{lists_step}
+use Rattle.wait_core.specs.ListsAreMade.{ListsAreMade}
+use Rattle.wait_core.proofs.ListsAreMade.{lists_made_step}
+use Rattle.wait_core.proofs.ListsKept.{lists_found, lists_step}
 use Rattle.wait_core.proofs.MaySleepIsMarked.{may_kept}
 use Rattle.wait_core.proofs.SetLatchWakes.{latch_kept}
 use Rattle.wait_core.proofs.ShutdownWakes.{shutdown_kept}
@@ -185,6 +187,7 @@ module _ {C : Type 0} (holds : List ℕ → List (PartyView C) → List ℕ → 
         shutdown = subst (Rattle.wait_core.specs.ShutdownWakes.ShutdownWakes z (set s.words i (becomes k n))) seen
             (shutdown_kept z s.words (map standing_of s.views) one id o (standing_of v) (standing_of w) at' own own below (omega arith) r.shutdown k found ok e goes);
         made = subst (WordsAreMade z (set s.words i (becomes k n))) (sym (map-set doings_of s.views id w)) (made_step z s.words (map doings_of s.views) id (doings_of v) o k (list_of k n found (number_of v.own) v.place) (at_map doings_of s.views id v at) own (omega arith) r.made);
+        lists_made = subst (ListsAreMade z (homes_after s.homes (carried z k o v.place) (act_of z k n found))) (sym (map-set doings_of s.views id w ∙ ap (λ (x : ℕ). set (map doings_of s.views) id record (doings_of v) { steps = v.steps ++ made_with k n (list_of k n found x v.place) ∷ [] }) o_is)) (lists_made_step z s.homes (map doings_of s.views) id (doings_of v) o (at_map doings_of s.views id v at) own r.lists_made k n found v.place (lists_found z (get_or s.words 0 0) s.words s.homes s.views (omega arith) r.flags r.roster r.lists id v at o k ok));
         lists = lists_step z (get_or s.words 0 0) s.words s.homes s.views (omega arith) r.flags r.roster r.lists id v at o own below k ok fit (r.flags i inside.0 inside.1);
         left = subst LeftAreFree (sym (unseen party_of s.views id v w at refl)) r.left;
         barriers = subst (λ (l : List (PartyView C)). Barriers l (phases z phase)) (sym (unseen party_of s.views id v w at refl)) r.barriers;

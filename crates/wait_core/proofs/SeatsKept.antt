@@ -26,6 +26,8 @@ use Rattle.seat_roster.proofs.Stretches.{unseen, from_seen, each_set, each_more}
 use Rattle.seat_roster.proofs.Numbers.{roster_drew, roster_gave, roster_took, pending_inside}
 use Rattle.wait_core.proofs.BarriersKept.{barriers_set, barriers_more, barriers_joined}
 use Rattle.wait_core.proofs.Turns.{first as is_first, client as is_client}
+use Rattle.wait_core.specs.ListsAreMade.{ListsAreMade}
+use Rattle.wait_core.proofs.ListsAreMade.{lists_made_snoc, lists_made_joined}
 use Rattle.wait_core.proofs.ListsKept.{lists_apart, lists_more, lists_joined}
 use Rattle.wait_core.proofs.WordsAreMade.{made_same, made_snoc, made_joined}
 use Rattle.wait_core.proofs.Untouched.{Agree, SameCounts, counts_are, counts_snoc, counts_idle, flags_same, may_same, latches_same, shutdown_same, places_snoc, places_idle, idle}
@@ -76,6 +78,7 @@ module _ {C : Type 0} (holds : List ℕ → List (PartyView C) → List ℕ → 
         latches = latches_same z s.words (set s.words (b + k) (f n)) (map standing_of s.views) (map standing_of (set s.views id w)) agree same r.latches;
         shutdown = shutdown_same z s.words (set s.words (b + k) (f n)) (map standing_of s.views) (map standing_of (set s.views id w)) agree same r.shutdown;
         made = subst (WordsAreMade z (set s.words (b + k) (f n))) (sym (unseen doings_of s.views id v w at refl)) (made_same z s.words (set s.words (b + k) (f n)) (map doings_of s.views) agree r.made);
+        lists_made = subst (ListsAreMade z s.homes) (sym (unseen doings_of s.views id v w at refl)) r.lists_made;
         lists = lists_apart z (get_or s.words 0 0) s.words s.homes s.views (omega (arith, r.sized.long)) r.flags r.roster r.lists id v at (b + k) (f n) w (is_client (omega arith)) refl;
         left = subst LeftAreFree (sym (map-set party_of s.views id w)) (each_set WasLeft (map party_of s.views) id (party_of w) r.left (λ none. absurd (has_number v.own p own none)));
         barriers = subst (λ (l : List (PartyView C)). Barriers l (phases z phase)) (sym (map-set party_of s.views id w)) (barriers_set (map party_of s.views) (phases z phase) id (party_of v) (party_of w) (at_map party_of s.views id v at) r.barriers refl refl);
@@ -107,6 +110,7 @@ module _ {C : Type 0} (holds : List ℕ → List (PartyView C) → List ℕ → 
         latches = latches_same z s.words (set s.words 0 x) (map standing_of s.views) (map standing_of (set s.views id w)) agree same r.latches;
         shutdown = shutdown_same z s.words (set s.words 0 x) (map standing_of s.views) (map standing_of (set s.views id w)) agree same r.shutdown;
         made = subst (WordsAreMade z (set s.words 0 x)) (sym (unseen doings_of s.views id v w at refl)) (made_same z s.words (set s.words 0 x) (map doings_of s.views) agree r.made);
+        lists_made = subst (ListsAreMade z s.homes) (sym (unseen doings_of s.views id v w at refl)) r.lists_made;
         lists = lists_apart z (get_or s.words 0 0) s.words s.homes s.views (omega (arith, long)) r.flags r.roster r.lists id v at 0 x w (is_first refl) refl;
         left = subst LeftAreFree (sym (unseen party_of s.views id v w at refl)) r.left;
         barriers = subst (λ (l : List (PartyView C)). Barriers l (phases z phase)) (sym (unseen party_of s.views id v w at refl)) r.barriers;
@@ -140,6 +144,7 @@ module _ {C : Type 0} (holds : List ℕ → List (PartyView C) → List ℕ → 
         latches = latches_same z s.words s.words (map standing_of s.views) (map standing_of (vs ++ w ∷ [])) agree same r.latches;
         shutdown = shutdown_same z s.words s.words (map standing_of s.views) (map standing_of (vs ++ w ∷ [])) agree same r.shutdown;
         made = subst (WordsAreMade z s.words) (sym (map-append doings_of vs (w ∷ []) ∙ ap (λ (l : List Doings). l ++ record { own = v.pending; steps = []; inherited = [] } ∷ []) (unseen doings_of s.views id v (stays v) at refl))) (made_snoc z s.words (map doings_of s.views) v.pending r.made);
+        lists_made = subst (ListsAreMade z s.homes) (sym (map-append doings_of vs (w ∷ []) ∙ ap (λ (l : List Doings). l ++ record { own = v.pending; steps = []; inherited = [] } ∷ []) (unseen doings_of s.views id v (stays v) at refl))) (lists_made_snoc z s.homes (map doings_of s.views) v.pending r.lists_made);
         lists = lists_more z (get_or s.words 0 0) s.words s.homes s.views (omega (arith, r.sized.long)) r.flags r.roster r.lists id v at (stays v) w v.pending refl refl;
         left = subst LeftAreFree parties (each_more WasLeft (map party_of s.views) (newcomer c (Some n)) r.left (λ none. record { attached = refl; elections = refl }));
         barriers = subst (λ (l : List (PartyView C)). Barriers l (phases z phase)) parties (barriers_more (map party_of s.views) (phases z phase) c (Some n) r.barriers);
@@ -178,6 +183,8 @@ module _ {C : Type 0} (holds : List ℕ → List (PartyView C) → List ℕ → 
         shutdown = shutdown_same z s.words s.words (map standing_of s.views) (map standing_of (set vs other y)) agree same r.shutdown;
         made = subst (WordsAreMade z s.words) (sym (map-set doings_of vs other y ∙ ap (λ (l : List Doings). set l other record { own = None; steps = []; inherited = [] }) (map-set doings_of s.views id x)))
             (made_joined z s.words (map doings_of s.views) id other (doings_of v) (doings_of w) apart (at_map doings_of s.views id v at) (at_map doings_of s.views other w there) r.made);
+        lists_made = subst (ListsAreMade z s.homes) (sym (map-set doings_of vs other y ∙ ap (λ (l : List Doings). set l other record { own = None; steps = []; inherited = [] }) (map-set doings_of s.views id x)))
+            (lists_made_joined z s.homes (map doings_of s.views) id other (doings_of v) (doings_of w) apart (at_map doings_of s.views id v at) (at_map doings_of s.views other w there) r.lists_made);
         lists = lists_joined z (get_or s.words 0 0) s.words s.homes s.views (omega (arith, r.sized.long)) r.flags r.roster r.lists id v at other w x y apart there still free.0 refl refl;
         left = subst LeftAreFree parties (each_set WasLeft (set (map party_of s.views) id (joined both (party_of v) (party_of w))) other (left_over c)
             (each_set WasLeft (map party_of s.views) id (joined both (party_of v) (party_of w)) r.left (λ none. absurd (has_number v.own p own none))) (λ none. record { attached = refl; elections = refl }));

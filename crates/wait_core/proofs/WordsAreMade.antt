@@ -18,10 +18,10 @@ use Rattle.wait_core.specs.Seating.{Doings, signed}
 use Rattle.wait_core.specs.WordsAreMade.{effect, sign, all_steps, WordsAreMade}
 use Rattle.wait_core.proofs.Untouched.{Agree}
 
-abbrev took_over : Doings → Doings → Doings
+abbrev pub took_over : Doings → Doings → Doings
 took_over v w = record v { inherited = v.inherited ++ (signed w.own w.steps ++ w.inherited) }
 
-abbrev stepless : Option ℕ → Doings
+abbrev pub stepless : Option ℕ → Doings
 stepless own = record { own = own; steps = []; inherited = [] }
 
 signed_same : (own : Option ℕ) (steps : List Made) → map sign (signed own steps) ≡ signed_by (number_of own) steps
@@ -29,7 +29,7 @@ signed_same own [] = refl
 signed_same own (m ∷ steps) = ap (λ (l : List (ℕ × Made)). (number_of own, m) ∷ l) (signed_same own steps)
 
 -- a seat that took in another has the steps of both
-both_made : (v w : Doings) → Both (all_steps v) (all_steps w) (all_steps (took_over v w))
+pub both_made : (v w : Doings) → Both (all_steps v) (all_steps w) (all_steps (took_over v w))
 both_made v w = both_signed sign (signed_by (number_of v.own) v.steps) v.inherited (signed w.own w.steps ++ w.inherited) (all_steps w)
     (map-append sign (signed w.own w.steps) w.inherited ∙ ap (λ (l : List (ℕ × Made)). l ++ map sign w.inherited) (signed_same w.own w.steps))
 

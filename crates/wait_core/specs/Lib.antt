@@ -17,6 +17,7 @@ pub mod Slots
 pub mod SpinInOneHand
 pub mod TargetsAreListed
 pub mod SignalIsKept
+pub mod ListsAreMade
 pub mod ListsStand
 pub mod LeftAreFree
 pub mod Barriers

@@ -15,6 +15,7 @@ use Rattle.wait_core.specs.SetLatchWakes.{SetLatchWakes}
 use Rattle.wait_core.specs.ShutdownWakes.{ShutdownWakes}
 use Rattle.wait_core.specs.ClientHolds.{ClientHolds}
 use Rattle.wait_core.specs.WordsAreMade.{WordsAreMade}
+use Rattle.wait_core.specs.ListsAreMade.{ListsAreMade}
 use Rattle.wait_core.specs.ListsStand.{ListsStand}
 use Rattle.wait_core.specs.LeftAreFree.{LeftAreFree}
 use Rattle.wait_core.specs.Barriers.{attendance_of, IdleAreHere}
@@ -44,6 +45,7 @@ module _ {C : Type 0} (holds : List ℕ → List (PartyView C) → List ℕ → 
     pub latches : SetLatchWakes z.procs s.words (map standing_of s.views)
     pub shutdown : ShutdownWakes z s.words (map standing_of s.views)
     pub made : WordsAreMade z s.words (map doings_of s.views)
+    pub lists_made : ListsAreMade z s.homes (map doings_of s.views)
     pub lists : ListsStand z s.words s.homes (map stance_of s.views)
     pub left : LeftAreFree (map party_of s.views)
     pub barriers : Barriers (map party_of s.views) (phases z phase)

@@ -10,6 +10,7 @@ ghost use Rattle.wait_core.specs.Machine.{WaitState, top, bit, Allowed, after};
 ghost use Rattle.wait_core.specs.Places.{may_sleep};
 ghost use Rattle.wait_core.specs.Seating.{doings_of, party_of};
 ghost use Rattle.wait_core.specs.WordsAreMade.{WordsAreMade};
+ghost use Rattle.wait_core.specs.ListsAreMade.{ListsAreMade};
 ghost use Rattle.wait_core.specs.Rule.{Rule};
 ghost use Rattle.wait_core.specs.Runs.{Deed, Steps, Runs, after_client};
 ghost use Rattle.wait_core.specs.Promises.{NoSetLatchIsSleptOn, NoShutdownIsSleptThrough, NoSignalIsSleptThrough, LastHoldsAlone, IsOpening, IsReached, SentinelStandsBehind, BroadcastWakesAll};
@@ -82,6 +83,12 @@ pub fn may_sleep_is_marked<P: Party>(party: &P, size: Size, phase: u64)
 /// value than that of its kind.
 pub fn words_are_made<P: Party>(party: &P, size: Size, phase: u64)
     ensures { (s : WaitState P.View) → Rule (P.holds party.now) size phase (P.word_count party.now) s → WordsAreMade size s.words (map doings_of s.views) }
+{}
+
+/// Each list at home is what the steps of the seats made of it: so what a take finds is what the free
+/// before it left.
+pub fn lists_are_made<P: Party>(party: &P, size: Size, phase: u64)
+    ensures { (s : WaitState P.View) → Rule (P.holds party.now) size phase (P.word_count party.now) s → ListsAreMade size s.homes (map doings_of s.views) }
 {}
 
 /// A number is that of one seat.
