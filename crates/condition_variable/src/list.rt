@@ -45,12 +45,7 @@ pub(crate) fn take_list<P: Party, R: Wait>(
 }
 
 // The same, once it was found in another's hand.
-fn wait_for_list<P: Party, R: Wait>(
-    rt: &R,
-    table: &WaitTable<P>,
-    seat: &mut WaitSeat<P>,
-    cv: CvNo,
-)
+fn wait_for_list<P: Party, R: Wait>(rt: &R, table: &WaitTable<P>, seat: &mut WaitSeat<P>, cv: CvNo)
     requires table { seat.old.table_id ≡ table.now.table_id }
     requires condition { cv < table.now.cvs }
     requires place { MaySpin (Cv cv) (top seat.old.view.place) }
@@ -195,10 +190,7 @@ pub(crate) fn pop<P: Party>(seat: &mut WaitSeat<P>) -> Option<ProcNo>
 }
 
 // The popped backend, unless it is this one.
-pub(crate) fn other_than_own<P: Party>(
-    seat: &WaitSeat<P>,
-    popped: Option<ProcNo>,
-) -> Option<ProcNo>
+pub(crate) fn other_than_own<P: Party>(seat: &WaitSeat<P>, popped: Option<ProcNo>) -> Option<ProcNo>
     ensures { result ≡ other (number_of seat.now.view.own) popped }
 {
     let own = own_number(seat);

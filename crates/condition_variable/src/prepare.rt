@@ -39,11 +39,7 @@ pub fn prepare_to_sleep<P: Party, R: Wait>(
 
 /// Leaves the list of the target, if there is one (`ConditionVariableCancelSleep`). Whether it was
 /// signalled: there was a target, and the backend wasn't on its list any more.
-pub fn cancel_sleep<P: Party, R: Wait>(
-    rt: &R,
-    table: &WaitTable<P>,
-    seat: &mut WaitSeat<P>,
-) -> bool
+pub fn cancel_sleep<P: Party, R: Wait>(rt: &R, table: &WaitTable<P>, seat: &mut WaitSeat<P>) -> bool
     requires table { seat.old.table_id ≡ table.now.table_id }
     requires target { IsTarget table.now.cvs seat.old.view.target }
     requires place { MayBegin call.Cancel seat.old.view.place }

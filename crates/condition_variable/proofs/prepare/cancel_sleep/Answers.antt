@@ -35,4 +35,4 @@ returns-in-Some-clause-left g c =
     let left = c.leave_target.ensures.left in
     let behind : outer (entering (Some call.Cancel) v.target v.place) ≡ v.place = ap (λ (o : Option ℕ). outer (entering (Some call.Cancel) o v.place)) at in
     subst {A = Option ℕ} (λ o. MatchOption o ((c.leave_target.result ≡ false) × (w ≡ c.args.seat.now)) (λ t. (found : List ℕ) × (more : List Made) × (w.view ≡ stands v (resumed v.place) None v.heeds more) × Cancels (number_of v.own) t call.Cancel found more × (c.leave_target.result ≡ not (is_listed (number_of v.own) found)))) (sym at)
-        (left.0, left.1, left.2 ∙ ap (λ (p : Place). stands v (resumed p) None v.heeds left.1) behind, left.3, left.4)
+    (left.0, left.1, left.2 ∙ ap (λ (p : Place). stands v (resumed p) None v.heeds left.1) behind, left.3, left.4)

@@ -31,7 +31,7 @@ returns-in-None-clause-listed g c =
     let joined = c.join_list.ensures.joined in
     let behind : outer (entering (Some c.args.begins) v.target v.place) ≡ v.place = ap outer (listing_joins_at c.args.cv v.target c.args.begins v.place c.requires.begins none) in
     subst {A = Option ℕ} (λ o. (more : List Made) × (c.join_list.new.seat.view ≡ stands v (resumed v.place) (Some c.args.cv) true more) × Lists (number_of v.own) c.args.cv o c.args.begins more) (sym none)
-        (joined.1, joined.2 ∙ ap (λ (p : Place). stands v (resumed p) (Some c.args.cv) true joined.1) behind, record { leave = []; join = joined.1; next = Some c.args.begins; found = joined.0; split = refl; leaves = (refl, refl); joins = joined.3 })
+    (joined.1, joined.2 ∙ ap (λ (p : Place). stands v (resumed p) (Some c.args.cv) true joined.1) behind, record { leave = []; join = joined.1; next = Some c.args.begins; found = joined.0; split = refl; leaves = (refl, refl); joins = joined.3 })
 
 pub leave_target-requires-clause-target : goal.leave_target-requires-clause-target
 leave_target-requires-clause-target g c = let at = sym c.target.ensures ∙ c.in-Some.is in λ _ _. (at, c.requires.target c.in-Some.target at)
@@ -77,4 +77,4 @@ returns-in-Some-clause-listed g c =
     let own : number_of w.own ≡ number_of v.own = ap (λ (y : WaitView _). number_of y.own) stood in
     let behind : resumed (outer w.place) ≡ resumed v.place = ap (λ (y : WaitView _). resumed (outer y.place)) stood in
     subst {A = Option ℕ} (λ o. (more : List Made) × (c.join_list-in-Some.new.seat.view ≡ stands v (resumed v.place) (Some c.args.cv) true more) × Lists (number_of v.own) c.args.cv o c.args.begins more) (sym at)
-        (left.1 ++ joined.1, stands_through v w c.join_list-in-Some.new.seat.view _ (resumed v.place) None (Some c.args.cv) v.heeds true left.1 joined.1 stood (joined.2 ∙ ap (λ (p : Place). stands w p (Some c.args.cv) true joined.1) behind), record { leave = left.1; join = joined.1; next = None; found = joined.0; split = refl; leaves = (refl, (left.0, left.3)); joins = subst (λ (o : ℕ). Visits c.args.cv None joined.0 (joined.0 ++ o ∷ []) (Some c.args.cv) joined.1) own joined.3 })
+    (left.1 ++ joined.1, stands_through v w c.join_list-in-Some.new.seat.view _ (resumed v.place) None (Some c.args.cv) v.heeds true left.1 joined.1 stood (joined.2 ∙ ap (λ (p : Place). stands w p (Some c.args.cv) true joined.1) behind), record { leave = left.1; join = joined.1; next = None; found = joined.0; split = refl; leaves = (refl, (left.0, left.3)); joins = subst (λ (o : ℕ). Visits c.args.cv None joined.0 (joined.0 ++ o ∷ []) (Some c.args.cv) joined.1) own joined.3 })

@@ -34,7 +34,7 @@ returns-in-None-clause-woken g c =
     let all = c.rouse_all.ensures.roused in
     let then : resumed (outer (entering (Some (call.Broadcast c.args.cv)) v.target v.place)) ≡ resumed v.place = ap (λ (o : Option ℕ). resumed (outer (entering (Some (call.Broadcast c.args.cv)) o v.place))) none in
     subst {A = Option ℕ} (λ o. (more : List Made) × (c.rouse_all.new.seat.view ≡ stands v (resumed v.place) None v.heeds more) × Broadcasts (number_of v.own) c.args.cv o more) (sym none)
-        (all.0, all.1 ∙ (λ i. stands v (then i) (none i) v.heeds all.0), record { leave = []; all = all.0; next = Some (call.Broadcast c.args.cv); split = refl; leaves = (refl, refl); rouses = all.2 })
+    (all.0, all.1 ∙ (λ i. stands v (then i) (none i) v.heeds all.0), record { leave = []; all = all.0; next = Some (call.Broadcast c.args.cv); split = refl; leaves = (refl, refl); rouses = all.2 })
 
 pub leave_target-requires-clause-target : goal.leave_target-requires-clause-target
 leave_target-requires-clause-target g c = let at = sym c.target.ensures ∙ c.in-Some.is in λ _ _. (at, c.requires.target c.in-Some.target at)
@@ -82,4 +82,4 @@ returns-in-Some-clause-woken g c =
     let own : number_of w.own ≡ number_of v.own = ap (λ (y : WaitView _). number_of y.own) stood in
     let behind = all.1 ∙ (λ i. stands w (resumed (outer (stood i).place)) (stood i).target (stood i).heeds all.0) in
     subst {A = Option ℕ} (λ o. (more : List Made) × (c.rouse_all-in-Some.new.seat.view ≡ stands v (resumed v.place) None v.heeds more) × Broadcasts (number_of v.own) c.args.cv o more) (sym at)
-        (left.1 ++ all.0, stands_through v w c.rouse_all-in-Some.new.seat.view _ (resumed v.place) None None v.heeds v.heeds left.1 all.0 stood behind, record { leave = left.1; all = all.0; next = None; split = refl; leaves = (refl, (left.0, left.3)); rouses = subst (λ (o : ℕ). RousesAll o c.args.cv None all.0) own all.2 })
+    (left.1 ++ all.0, stands_through v w c.rouse_all-in-Some.new.seat.view _ (resumed v.place) None None v.heeds v.heeds left.1 all.0 stood behind, record { leave = left.1; all = all.0; next = None; split = refl; leaves = (refl, (left.0, left.3)); rouses = subst (λ (o : ℕ). RousesAll o c.args.cv None all.0) own all.2 })

@@ -49,4 +49,4 @@ returns-clause-signalled g c =
     let ends : after_wake woken (signals cv list p) ≡ resumed v.place = ap (λ (o : Option ℕ). after_wake o (signals cv list p)) c.pop-woken.ensures.head ∙ (signal_ends cv list p ∙ ap resumed (signal_behind cv v.target v.place)) in
     let woke = roused v c.step.new.seat.view c.wake.new.seat.view (signals cv list p) (resumed v.place) c.target-target.result v.heeds woken _ sets.0 at sets.1 ends in
     subst {A = Option ℕ × Option ℕ} (λ y. (more : List Made) × (c.wake.new.seat.view ≡ stands v (resumed v.place) y.0 v.heeds more) × Signals cv y.0 y.1 more) (λ i. (target i, sym c.wake.ensures.who i))
-        (_, woke, record { found = list; head = c.pop-woken.ensures.head; rouses = record { visit = _; sets = sets.0; split = refl; visits = record { took = took.0; word = c.step.result.old; split = refl; takes = took.2 }; wakes = sets.2 } })
+    (_, woke, record { found = list; head = c.pop-woken.ensures.head; rouses = record { visit = _; sets = sets.0; split = refl; visits = record { took = took.0; word = c.step.result.old; split = refl; takes = took.2 }; wakes = sets.2 } })
