@@ -1,5 +1,5 @@
 -- Each step leaves lists at home that the steps of the seats account for.
-use Rattle.std.proofs.Common.{◌≡◌, ℕ, zero, suc, ◌+◌, ◌<◌, ◌==◌, eqb, Bool, true, false, cond, List, [], ◌∷◌, ◌++◌, length, map, get_or, set, Option, None, Some, refl, sym, ap, ◌∙◌, subst, arith, eqb-true}
+use Rattle.std.proofs.Common.{◌≡◌, ℕ, zero, suc, ◌+◌, ◌<◌, eqb, Bool, true, false, cond, List, [], ◌∷◌, ◌++◌, length, map, get_or, set, Option, None, Some, refl, sym, ap, ◌∙◌, subst, arith, eqb-true}
 use Rattle.std.proofs.lemmas.List.{map_push, length-map}
 use mathlib.Core.Option as maybe
 use lib.ListN.{get_elem?}
@@ -16,7 +16,7 @@ use Rattle.seat_roster.proofs.WordsAreMade.{one_more}
 use Rattle.seat_roster.proofs.WordsAreMade as roster
 use Rattle.seat_roster.proofs.Totals.{at_inside}
 use Rattle.wait_core.specs.Words.{slot_of}
-use Rattle.wait_core.specs.Machine.{Place, number_of, left_at, list_of, made_with, slot_number, act_of, carried}
+use Rattle.wait_core.specs.Machine.{Place, number_of, left_at, list_of, made_with, act_of, carried}
 use Rattle.wait_core.specs.Seating.{Doings}
 use Rattle.wait_core.specs.Slots.{AllAsOpened}
 use Rattle.wait_core.specs.Stances.{Homes}

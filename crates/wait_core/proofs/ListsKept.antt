@@ -8,7 +8,7 @@ use Rattle.atomic_table.specs.Table.{homes_after}
 use Rattle.atomic_table.proofs.Lists.{at_map}
 use Rattle.wait_core.specs.declared.step.Spot.{Spot}
 use Rattle.wait_core.specs.declared.step.WaitStep.{WaitStep}
-use Rattle.wait_core.specs.declared.step.WaitStep.TheVariants.{Sload, Sset, Reset, Mstore, Mload, Byte, Look, Drain, Shload, Shstore, Take, Spin, Free}
+use Rattle.wait_core.specs.declared.step.WaitStep.TheVariants.{Take, Free}
 use Rattle.wait_core.specs.declared.view.Frame.TheVariants.{Holding}
 use Rattle.wait_core.specs.declared.view.Kept.{Kept}
 use Rattle.wait_core.specs.declared.view.Size.{Size}
