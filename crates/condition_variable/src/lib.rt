@@ -6,6 +6,8 @@ mod list;
 mod prepare;
 mod rousing;
 mod sleeping;
+#[cfg(test)]
+mod tests;
 mod waking;
 
 pub use prepare::{cancel_sleep, prepare_to_sleep};
