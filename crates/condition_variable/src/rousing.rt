@@ -23,7 +23,7 @@ use wait_core::{Call, Party, Spot, WaitSeat, WaitStep, WaitTable};
 
 /// Wakes all who are on the condition's list (`ConditionVariableBroadcast`). Where others remain
 /// when the first is popped, this backend stands behind them until it is off the list, so that
-/// nobody who comes later is woken for ever. An earlier target is cancelled.
+/// those who come later can't keep it going for ever. An earlier target is cancelled.
 pub fn broadcast<P: Party, R: Wait>(rt: &R, table: &WaitTable<P>, seat: &mut WaitSeat<P>, cv: CvNo)
     requires table { seat.old.table_id ≡ table.now.table_id }
     requires condition { cv < table.now.cvs }
