@@ -2,10 +2,9 @@
 use Rattle.std.proofs.Common.{◌≡◌, ◌≢◌, ◌⊎◌, ℕ, ◌+◌, ◌<◌, ◌≤◌, ◌==◌, Bool, true, false, cond, List, [], ◌∷◌, ◌++◌, length, append-nil, append_assoc, Option, None, Some, refl, sym, ap, ◌∙◌, subst, inl, inr, arith, ne_eqb}
 use Rattle.wait_core.specs.declared.step.Call.{Call}
 use Rattle.wait_core.specs.declared.step.Call.TheVariants as call
-use Rattle.wait_core.specs.declared.step.Until.TheVariants.{Latch, LatchOrShutdown}
+use Rattle.wait_core.specs.declared.step.Until.TheVariants.{Latch}
 use Rattle.wait_core.specs.declared.step.Spot.{Spot}
 use Rattle.wait_core.specs.declared.step.Spot.TheVariants.{Cv}
-use Rattle.wait_core.specs.declared.step.WaitStep.{WaitStep}
 use Rattle.wait_core.specs.declared.step.WaitStep.TheVariants.{Sload, Sset, Mload, Byte, Reset, Take, Spin, Free}
 use Rattle.wait_core.specs.declared.view.Frame.{Frame}
 use Rattle.wait_core.specs.declared.view.Frame.TheVariants.{Taking, Spinning, Holding, Resetting, SleepWaiting, Preparing, Signalling, Rousing}
@@ -13,20 +12,19 @@ use Rattle.wait_core.specs.declared.view.Job.{Job}
 use Rattle.wait_core.specs.declared.view.Job.TheVariants as job
 use Rattle.wait_core.specs.declared.view.Kept.{Kept}
 use Rattle.wait_core.specs.declared.view.Made.{Made}
-use Rattle.wait_core.specs.declared.view.Record.{Record}
 use Rattle.wait_core.specs.declared.view.Size.{Size}
 use Rattle.wait_core.specs.declared.view.WaitView.{WaitView}
 use Rattle.std.specs.Prelude.{not}
 use Rattle.seat_roster.specs.Roster.{times}
 use Rattle.wait_core.specs.Jobs.{spot_of, left_list, target_after, heeds_after, resumed, goes_on, signals, rouses, rouses_on}
 use Rattle.wait_core.specs.Lists.{AllBelow, is_empty, is_listed, rest_of}
-use Rattle.wait_core.specs.Machine.{Place, top, outer, number_of, made, made_with, as_kept, left_at, entered, reset, taken, spun, next, next_with, takes_first, spot_for, SetsLatchOf, WaitsForLatch, MayBegin, MayTake, MaySpin, Permits}
+use Rattle.wait_core.specs.Machine.{Place, top, outer, number_of, made, made_with, as_kept, left_at, reset, taken, spun, next, next_with, takes_first, spot_for, SetsLatchOf, WaitsForLatch, MayBegin, MayTake, MaySpin, Permits}
 use Rattle.wait_core.specs.Seats.{SeatView}
 use Rattle.wait_core.specs.Stances.{belongs_at}
 use Rattle.wait_core.specs.Told.{TellsList}
 use Rattle.wait_core.proofs.Lists.{listed_there}
 use Rattle.latch.specs.Reads.{went, HasSet}
-use Rattle.condition_variable.specs.Visits.{OnlySpins, Takes, SetsLatch, MayWakeNow, after_wake, entering, head_of, stands, with_items}
+use Rattle.condition_variable.specs.Visits.{OnlySpins, SetsLatch, MayWakeNow, after_wake, entering, head_of, stands, with_items}
 use Rattle.condition_variable.specs.Calls.{GoesOn, IsListing, UntilOff, other}
 
 -- PLACES

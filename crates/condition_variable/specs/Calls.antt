@@ -1,5 +1,5 @@
 -- What each call on conditions does, by the steps that stand in the view of its seat, whose number is `own`.
-use Rattle.std.specs.Prelude.{◌≡◌, ◌≢◌, ℕ, zero, suc, ◌==◌, Bool, true, false, cond, List, [], ◌∷◌, ◌++◌, Option, None, Some}
+use Rattle.std.specs.Prelude.{◌≡◌, ◌≢◌, ℕ, zero, suc, ◌==◌, true, false, cond, List, [], ◌∷◌, ◌++◌, Option, None, Some}
 use Rattle.wait_core.specs.declared.step.Call.{Call}
 use Rattle.wait_core.specs.declared.step.Call.TheVariants as call
 use Rattle.wait_core.specs.declared.step.Until.TheVariants.{Latch}
@@ -8,7 +8,7 @@ use Rattle.wait_core.specs.declared.view.Made.{Made}
 use Rattle.wait_core.specs.Lists.{is_empty, is_listed, rest_of, without}
 use Rattle.wait_core.specs.Machine.{made}
 use Rattle.latch.specs.Reads.{BeginsWait, ReadLatch}
-use Rattle.condition_variable.specs.Visits.{Visits, Wakes, Rouses, head_of}
+use Rattle.condition_variable.specs.Visits.{Visits, Rouses, head_of}
 use Rattle.condition_variable.specs.declared.sleeping.Slept.{Slept}
 use Rattle.condition_variable.specs.declared.sleeping.Slept.TheVariants.{Prepared, Signalled}
 

@@ -1,4 +1,4 @@
-use Rattle.std.proofs.Common.{ℕ, false, true, List, [], ◌∷◌, ◌++◌, refl, sym, ap, ◌∙◌, subst, arith}
+use Rattle.std.proofs.Common.{List, [], ◌∷◌, ◌++◌, refl, sym, ap, ◌∙◌, subst, arith}
 use Rattle.wait_core.specs.Seats.{size_of}
 use Rattle.wait_core.specs.declared.step.Spot.TheVariants.{Cv}
 use Rattle.wait_core.specs.declared.step.WaitStep.TheVariants.{Spin}
@@ -6,7 +6,6 @@ use Rattle.wait_core.specs.declared.view.WaitView.{WaitView}
 use Rattle.wait_core.specs.declared.view.Made.{Made}
 use Rattle.wait_core.specs.Machine.{Permits, as_kept, made}
 use Rattle.latch.specs.Reads.{went}
-use Rattle.latch.proofs.Walks.{clear_or_set}
 use Rattle.condition_variable.proofs.Walks.{went_none, spins_on, spins_append, spun_still, swapped_set}
 use Rattle.condition_variable.proofs.list.spin.Goals as goal
 

@@ -1,14 +1,13 @@
-use Rattle.std.proofs.Common.{◌≡◌, ℕ, false, true, List, [], ◌∷◌, ◌++◌, Option, None, Some, append_assoc, refl, sym, ap, ◌∙◌, subst, inl, inr, arith}
+use Rattle.std.proofs.Common.{◌≡◌, ℕ, true, [], ◌∷◌, ◌++◌, Option, None, refl, sym, ap, ◌∙◌, subst, inl, inr}
 use Rattle.wait_core.specs.Seats.{size_of}
 use Rattle.wait_core.specs.declared.step.Spot.TheVariants.{Cv}
 use Rattle.wait_core.specs.declared.step.WaitStep.TheVariants.{Take}
 use Rattle.wait_core.specs.declared.view.WaitView.{WaitView}
-use Rattle.wait_core.specs.declared.view.Made.{Made}
-use Rattle.wait_core.specs.Machine.{MaySpin, Place, as_kept, made, made_with, number_of, spun, taken, top}
+use Rattle.wait_core.specs.Machine.{MaySpin, Place, as_kept, made_with, number_of, spun, taken, top}
 use Rattle.wait_core.specs.Stances.{belongs_at}
 use Rattle.wait_core.specs.Told.{TellsList}
 use Rattle.latch.specs.Reads.{went}
-use Rattle.latch.proofs.Walks.{went_through, clear_or_set}
+use Rattle.latch.proofs.Walks.{went_through}
 use Rattle.condition_variable.specs.Visits.{entering}
 use Rattle.condition_variable.proofs.Walks.{takes_on, may_wait, waited, tells_first, swapped_set}
 use Rattle.condition_variable.proofs.list.take_list.Goals as goal

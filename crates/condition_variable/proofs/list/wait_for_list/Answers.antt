@@ -1,10 +1,10 @@
-use Rattle.std.proofs.Common.{ℕ, false, true, List, [], ◌∷◌, ◌++◌, None, append_assoc, refl, sym, ap, ◌∙◌, subst, arith}
+use Rattle.std.proofs.Common.{true, List, [], ◌∷◌, ◌++◌, None, refl, sym, ap, ◌∙◌, subst, arith}
 use Rattle.wait_core.specs.Seats.{size_of}
 use Rattle.wait_core.specs.declared.step.Spot.TheVariants.{Cv}
 use Rattle.wait_core.specs.declared.step.WaitStep.TheVariants.{Take}
 use Rattle.wait_core.specs.declared.view.WaitView.{WaitView}
 use Rattle.wait_core.specs.declared.view.Made.{Made}
-use Rattle.wait_core.specs.Machine.{MaySpin, Permits, as_kept, made, made_with, number_of, spun, top}
+use Rattle.wait_core.specs.Machine.{MaySpin, Permits, as_kept, made, number_of, spun, top}
 use Rattle.wait_core.specs.Stances.{belongs_at}
 use Rattle.wait_core.specs.Told.{TellsList}
 use Rattle.latch.specs.Reads.{went}

@@ -1,12 +1,10 @@
-use Rattle.std.proofs.Common.{◌≡◌, ℕ, false, List, [], ◌∷◌, Option, None, Some, MatchOption, refl, sym, ap, ◌∙◌, subst, arith}
+use Rattle.std.proofs.Common.{◌≡◌, ℕ, false, List, Option, None, Some, MatchOption, refl, sym, ap, ◌∙◌, subst, arith}
 use Rattle.std.specs.Prelude.{not}
 use Rattle.wait_core.specs.declared.step.Call.TheVariants as call
 use Rattle.wait_core.specs.declared.view.Made.{Made}
-use Rattle.wait_core.specs.declared.view.WaitView.{WaitView}
 use Rattle.wait_core.specs.Jobs.{resumed}
 use Rattle.wait_core.specs.Lists.{is_listed}
 use Rattle.wait_core.specs.Machine.{Place, number_of, outer, spot_for, top}
-use Rattle.wait_core.specs.Seats.{SeatView}
 use Rattle.condition_variable.specs.Visits.{entering, stands}
 use Rattle.condition_variable.specs.Calls.{Cancels}
 use Rattle.condition_variable.proofs.Walks.{cancel_first}

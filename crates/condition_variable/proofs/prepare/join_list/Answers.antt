@@ -1,12 +1,9 @@
-use Rattle.std.proofs.Common.{◌≡◌, ℕ, true, List, [], ◌∷◌, ◌++◌, Option, None, Some, append_assoc, refl, sym, ap, ◌∙◌, subst, arith}
+use Rattle.std.proofs.Common.{Some, refl}
 use Rattle.wait_core.specs.declared.step.Spot.TheVariants.{Cv}
 use Rattle.wait_core.specs.declared.view.Job.TheVariants as job
-use Rattle.wait_core.specs.declared.view.Made.{Made}
-use Rattle.wait_core.specs.declared.view.WaitView.{WaitView}
-use Rattle.wait_core.specs.Lists.{is_listed, without, rest_of}
-use Rattle.wait_core.specs.Machine.{Place, as_kept, number_of}
-use Rattle.wait_core.specs.Seats.{SeatView, size_of}
-use Rattle.condition_variable.specs.Visits.{entering, stands, with_items}
+use Rattle.wait_core.specs.Machine.{as_kept, number_of}
+use Rattle.wait_core.specs.Seats.{size_of}
+use Rattle.condition_variable.specs.Visits.{entering}
 use Rattle.condition_variable.proofs.Walks.{may_enter, may_free, sends, visited, room_for, belongs_nowhere}
 use Rattle.condition_variable.proofs.prepare.join_list.Goals as goal
 

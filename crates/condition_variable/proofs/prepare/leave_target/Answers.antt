@@ -1,12 +1,11 @@
-use Rattle.std.proofs.Common.{◌≡◌, ℕ, true, List, [], ◌∷◌, ◌++◌, Option, None, Some, append_assoc, refl, sym, ap, ◌∙◌, subst, arith}
+use Rattle.std.proofs.Common.{◌≡◌, ℕ, None, Some, refl, ap, ◌∙◌}
 use Rattle.wait_core.specs.declared.step.Spot.TheVariants.{Cv}
 use Rattle.wait_core.specs.declared.view.Job.TheVariants as job
-use Rattle.wait_core.specs.declared.view.Made.{Made}
 use Rattle.wait_core.specs.declared.view.WaitView.{WaitView}
-use Rattle.wait_core.specs.Lists.{is_listed, without, rest_of}
-use Rattle.wait_core.specs.Machine.{Place, as_kept, number_of}
-use Rattle.wait_core.specs.Seats.{SeatView, size_of}
-use Rattle.condition_variable.specs.Visits.{entering, stands, with_items}
+use Rattle.wait_core.specs.Lists.{is_listed}
+use Rattle.wait_core.specs.Machine.{as_kept, number_of}
+use Rattle.wait_core.specs.Seats.{size_of}
+use Rattle.condition_variable.specs.Visits.{entering}
 use Rattle.condition_variable.proofs.Walks.{may_enter, may_free, sends, visited}
 use Rattle.condition_variable.proofs.prepare.leave_target.Goals as goal
 

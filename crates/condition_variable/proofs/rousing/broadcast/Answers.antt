@@ -1,17 +1,14 @@
-use Rattle.std.proofs.Common.{◌≡◌, ℕ, suc, true, false, cond, List, [], ◌∷◌, ◌++◌, append-nil, Option, None, Some, refl, sym, ap, ◌∙◌, subst, arith}
+use Rattle.std.proofs.Common.{◌≡◌, ℕ, List, [], ◌∷◌, ◌++◌, Option, None, Some, refl, sym, ap, ◌∙◌, subst, arith}
 use Rattle.wait_core.specs.declared.step.Call.TheVariants as call
 use Rattle.wait_core.specs.declared.step.Spot.TheVariants.{Cv}
 use Rattle.wait_core.specs.declared.step.WaitStep.TheVariants.{Take}
-use Rattle.wait_core.specs.declared.view.Frame.TheVariants.{Taking, Broadcasting}
+use Rattle.wait_core.specs.declared.view.Frame.TheVariants.{Taking}
 use Rattle.wait_core.specs.declared.view.Job.TheVariants as job
 use Rattle.wait_core.specs.declared.view.Made.{Made}
 use Rattle.wait_core.specs.declared.view.WaitView.{WaitView}
 use Rattle.wait_core.specs.Jobs.{resumed}
-use Rattle.wait_core.specs.Lists.{is_empty, rest_of}
 use Rattle.wait_core.specs.Machine.{Permits, Place, number_of, outer, top}
 use Rattle.wait_core.specs.Seats.{size_of}
-use Rattle.latch.specs.Reads.{went}
-use Rattle.latch.proofs.Walks.{went_through}
 use Rattle.condition_variable.specs.Visits.{entering, stands}
 use Rattle.condition_variable.specs.Calls.{Broadcasts, RousesAll}
 use Rattle.condition_variable.proofs.Walks.{stands_through}

@@ -1,16 +1,14 @@
-use Rattle.std.proofs.Common.{◌≡◌, ◌<◌, ℕ, true, false, cond, length, List, [], ◌∷◌, ◌++◌, Option, None, Some, append_assoc, refl, sym, ap, ◌∙◌, subst, arith}
+use Rattle.std.proofs.Common.{◌≡◌, ◌<◌, ℕ, cond, length, List, [], ◌∷◌, ◌++◌, Option, None, refl, sym, ap, ◌∙◌, subst, arith}
 use Rattle.wait_core.specs.declared.step.Spot.TheVariants.{Cv}
-use Rattle.wait_core.specs.declared.step.WaitStep.TheVariants.{Take}
 use Rattle.wait_core.specs.declared.view.Frame.TheVariants.{Taking}
 use Rattle.wait_core.specs.declared.view.Job.TheVariants as job
 use Rattle.wait_core.specs.declared.view.Made.{Made}
 use Rattle.wait_core.specs.declared.view.WaitView.{WaitView}
-use Rattle.wait_core.specs.Jobs.{resumed, rouses, rouses_on}
-use Rattle.wait_core.specs.Lists.{is_empty, is_listed, rest_of}
-use Rattle.wait_core.specs.Machine.{MayTake, Permits, Place, as_kept, number_of, outer, top}
+use Rattle.wait_core.specs.Jobs.{resumed, rouses}
+use Rattle.wait_core.specs.Lists.{is_empty, rest_of}
+use Rattle.wait_core.specs.Machine.{Place, as_kept, number_of, outer}
 use Rattle.wait_core.specs.Seats.{SeatView, size_of}
-use Rattle.condition_variable.specs.Visits.{MayWakeNow, Wakes, after_wake, entering, head_of, stands, with_items}
-use Rattle.condition_variable.specs.Calls.{other}
+use Rattle.condition_variable.specs.Visits.{MayWakeNow, Wakes, after_wake, entering, stands, with_items}
 use Rattle.condition_variable.proofs.Walks.{may_enter, may_free, sends, visited, all_wide, rest_short, rouse_wakes, rouse_ends, roused}
 use Rattle.condition_variable.proofs.rousing.rouse_first.Goals as goal
 

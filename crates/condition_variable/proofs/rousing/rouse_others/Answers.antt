@@ -1,18 +1,12 @@
-use Rattle.std.proofs.Common.{◌≡◌, ℕ, suc, true, false, cond, List, [], ◌∷◌, ◌++◌, append-nil, Option, None, Some, refl, sym, ap, ◌∙◌, subst, arith}
-use Rattle.wait_core.specs.declared.step.Call.TheVariants as call
-use Rattle.wait_core.specs.declared.step.Spot.TheVariants.{Cv}
-use Rattle.wait_core.specs.declared.step.WaitStep.TheVariants.{Take}
-use Rattle.wait_core.specs.declared.view.Frame.TheVariants.{Taking, Broadcasting}
+use Rattle.std.proofs.Common.{◌≡◌, ℕ, suc, true, false, cond, [], ◌∷◌, ◌++◌, refl, sym, ap, ◌∙◌, subst}
+use Rattle.wait_core.specs.declared.view.Frame.TheVariants.{Taking}
 use Rattle.wait_core.specs.declared.view.Job.TheVariants as job
-use Rattle.wait_core.specs.declared.view.Made.{Made}
 use Rattle.wait_core.specs.declared.view.WaitView.{WaitView}
 use Rattle.wait_core.specs.Jobs.{resumed}
-use Rattle.wait_core.specs.Lists.{is_empty, is_listed, rest_of}
-use Rattle.wait_core.specs.Machine.{Permits, Place, number_of, outer, top}
-use Rattle.wait_core.specs.Seats.{size_of}
+use Rattle.wait_core.specs.Lists.{is_listed, rest_of}
+use Rattle.wait_core.specs.Machine.{Place, number_of, outer}
 use Rattle.latch.specs.Reads.{went}
 use Rattle.latch.proofs.Walks.{went_through}
-use Rattle.condition_variable.specs.Visits.{entering, stands}
 use Rattle.condition_variable.specs.Calls.{Round}
 use Rattle.condition_variable.proofs.Walks.{went_none}
 use Rattle.condition_variable.proofs.rousing.rouse_others.Goals as goal

@@ -1,4 +1,4 @@
-use Rattle.std.proofs.Common.{◌≡◌, ℕ, suc, Bool, true, false, cond, List, [], ◌∷◌, ◌++◌, append_assoc, Option, None, Some, refl, sym, ap, ◌∙◌, subst, arith}
+use Rattle.std.proofs.Common.{◌≡◌, ℕ, suc, true, false, cond, List, [], ◌∷◌, ◌++◌, append_assoc, None, Some, refl, sym, ap, ◌∙◌, subst}
 use Rattle.wait_core.specs.declared.step.Call.TheVariants as call
 use Rattle.wait_core.specs.declared.step.Until.TheVariants.{Latch}
 use Rattle.wait_core.specs.declared.step.WaitStep.TheVariants.{Reset}
@@ -7,7 +7,7 @@ use Rattle.wait_core.specs.declared.view.Made.{Made}
 use Rattle.wait_core.specs.declared.view.WaitView.{WaitView}
 use Rattle.wait_core.specs.Jobs.{resumed}
 use Rattle.wait_core.specs.Lists.{is_listed}
-use Rattle.wait_core.specs.Machine.{MayBegin, Place, made, number_of, outer, top}
+use Rattle.wait_core.specs.Machine.{MayBegin, made, number_of, outer}
 use Rattle.latch.specs.Reads.{went, BeginsWait, ReadLatch}
 use Rattle.latch.proofs.Walks.{went_through}
 use Rattle.condition_variable.specs.Visits.{Visits, stands}

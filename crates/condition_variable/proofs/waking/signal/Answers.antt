@@ -1,13 +1,12 @@
-use Rattle.std.proofs.Common.{◌≡◌, ℕ, true, List, [], ◌∷◌, ◌++◌, Option, None, Some, append_assoc, refl, sym, ap, ◌∙◌, subst, arith}
+use Rattle.std.proofs.Common.{◌≡◌, ℕ, List, Option, Some, refl, sym, ap, ◌∙◌, subst, arith}
 use Rattle.wait_core.specs.declared.step.Spot.TheVariants.{Cv}
 use Rattle.wait_core.specs.declared.view.Job.TheVariants as job
 use Rattle.wait_core.specs.declared.view.Made.{Made}
 use Rattle.wait_core.specs.declared.view.WaitView.{WaitView}
-use Rattle.wait_core.specs.Lists.{is_listed, without, rest_of}
-use Rattle.wait_core.specs.Machine.{Place, as_kept, number_of, outer, spot_for}
+use Rattle.wait_core.specs.Machine.{Place, as_kept, outer, spot_for}
 use Rattle.wait_core.specs.declared.step.Call.TheVariants as call
-use Rattle.wait_core.specs.Seats.{SeatView, size_of}
-use Rattle.condition_variable.specs.Visits.{MayWakeNow, after_wake, entering, stands, with_items}
+use Rattle.wait_core.specs.Seats.{size_of}
+use Rattle.condition_variable.specs.Visits.{MayWakeNow, after_wake, entering, stands}
 use Rattle.condition_variable.specs.Calls.{Signals}
 use Rattle.wait_core.specs.Jobs.{resumed, signals}
 use Rattle.condition_variable.proofs.Walks.{may_enter, may_free, sends, visited, all_wide, signal_enters, signal_first, signal_wakes, signal_ends, signal_behind, roused}
