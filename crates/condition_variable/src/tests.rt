@@ -15,6 +15,8 @@ use std::process::Abort;
 use std::test::Fail;
 use wait_core::{Call, NoParty, Spot, WaitSeat, WaitSeen, WaitStep, WaitTable};
 
+mod threads;
+
 type Conditions = WaitTable<NoParty>;
 
 type Seat = WaitSeat<NoParty>;
