@@ -12,13 +12,17 @@ use Rattle.wait_core.specs.declared.view.Job.{Job}
 use Rattle.wait_core.specs.declared.view.Job.TheVariants as job
 use Rattle.wait_core.specs.declared.view.Kept.{Kept}
 use Rattle.wait_core.specs.declared.view.Made.{Made}
+use Rattle.wait_core.specs.declared.view.Record.{Record}
 use Rattle.wait_core.specs.declared.view.Size.{Size}
 use Rattle.wait_core.specs.declared.view.WaitView.{WaitView}
 use Rattle.std.specs.Prelude.{not}
 use Rattle.seat_roster.specs.Roster.{times}
-use Rattle.wait_core.specs.Jobs.{spot_of, left_list, target_after, heeds_after, resumed, goes_on, signals, rouses, rouses_on}
+use Rattle.wait_core.specs.Words.{slot_of}
+use Rattle.wait_core.specs.Jobs.{spot_of, left_list, left_record, attached_after, target_after, heeds_after, resumed, goes_on, signals, rouses, rouses_on}
 use Rattle.wait_core.specs.Lists.{AllBelow, is_empty, is_listed, rest_of}
 use Rattle.wait_core.specs.Machine.{Place, top, outer, number_of, made, made_with, as_kept, left_at, reset, taken, spun, next, next_with, takes_first, spot_for, SetsLatchOf, WaitsForLatch, MayBegin, MayTake, MaySpin, Permits}
+use Rattle.wait_core.specs.Meanings.{Meanings}
+use Rattle.wait_core.specs.Barriers.{StepSuits}
 use Rattle.wait_core.specs.Seats.{SeatView}
 use Rattle.wait_core.specs.Stances.{belongs_at}
 use Rattle.wait_core.specs.Told.{TellsList}
@@ -57,17 +61,17 @@ waited x k (Taking j ∷ p) ok = refl
 waited x k (f ∷ p) ok = absurd ok
 
 -- a call that takes a spin word first begins where nothing is behind it
-none_set : (t : Option ℕ) (b : Call) (q : ℕ) (x : Spot) → spot_for (takes_first t b) ≡ Some x → SetsLatchOf q b → ⊥
+none_set : (t : Option ℕ) (b : Call) (q : ℕ) (x : Spot) → takes_first t b ≡ Some x → SetsLatchOf q b → ⊥
 none_set None (call.Set r) q x e m = cc
 none_set (Some c) (call.Set r) q x e m = cc
 none_set t b q x e m = absurd m
 
-none_wait : (t : Option ℕ) (b : Call) (x : Spot) → spot_for (takes_first t b) ≡ Some x → WaitsForLatch b → ⊥
+none_wait : (t : Option ℕ) (b : Call) (x : Spot) → takes_first t b ≡ Some x → WaitsForLatch b → ⊥
 none_wait None (call.Wait Latch) x e m = cc
 none_wait (Some c) (call.Wait Latch) x e m = cc
 none_wait t b x e m = absurd m
 
-pub idle : (t : Option ℕ) (b : Call) (p : Place) (x : Spot) → spot_for (takes_first t b) ≡ Some x → MayBegin b p → p ≡ []
+pub idle : (t : Option ℕ) (b : Call) (p : Place) (x : Spot) → takes_first t b ≡ Some x → MayBegin b p → p ≡ []
 idle t b [] x e m = refl
 idle t b (Signalling c q ∷ p) x e m = absurd (none_set t b q x e m)
 idle t b (Rousing c q more ∷ p) x e m = absurd (none_set t b q x e m)
@@ -80,23 +84,23 @@ module _ {C : Type 0} where
   went_none v = ap (λ (l : List Made). record v { steps = l }) (sym (append-nil v.steps))
 
   -- the first swap of a spin word
-  pub takes_on : (z : Size) (v x : WaitView C) (c : ℕ) (b : Option Call) (n m : ℕ) (k : Kept) → x ≡ next_with z (Take (Cv c) b) v n k → n ≡ m → x ≡ went v (taken (m == 0) k (entering b v.target v.place)) (made_with (Take (Cv c) b) m (cond (m == 0) k.list.items []) ∷ [])
-  takes_on z v x c None n m k is at = is ∙ ap (λ (i : ℕ). next_with z (Take (Cv c) None) v i k) at
-  takes_on z v x c (Some b) n m k is at = is ∙ ap (λ (i : ℕ). next_with z (Take (Cv c) (Some b)) v i k) at
+  pub takes_on : (z : Size) (v x : WaitView C) (y : Spot) (b : Option Call) (n m : ℕ) (k : Kept) → x ≡ next_with z (Take y b) v n k → n ≡ m → x ≡ went v (taken (m == 0) k (entering b v.target v.place)) (made_with (Take y b) m (cond (m == 0) k.list.items []) ∷ [])
+  takes_on z v x y None n m k is at = is ∙ ap (λ (i : ℕ). next_with z (Take y None) v i k) at
+  takes_on z v x y (Some b) n m k is at = is ∙ ap (λ (i : ℕ). next_with z (Take y (Some b)) v i k) at
 
   -- a load of it, and another swap, after more steps
-  pub spins_on : (z : Size) (v w x : WaitView C) (p : Place) (more : List Made) (c n m : ℕ) (k : Kept) → w ≡ went v p more → x ≡ next_with z (Spin (Cv c)) w n k → n ≡ m → x ≡ went v (spun (m == 0) p) (more ++ made (Spin (Cv c)) m ∷ [])
-  spins_on z v w x p more c n m k was is at = is ∙ (ap (λ (y : WaitView C). next_with z (Spin (Cv c)) y n k) was ∙ (ap (λ (i : ℕ). next_with z (Spin (Cv c)) (went v p more) i k) at ∙ ap (λ (l : List Made). record v { place = spun (m == 0) p; steps = l }) (append_assoc v.steps more (made (Spin (Cv c)) m ∷ []))))
+  pub spins_on : (z : Size) (v w x : WaitView C) (p : Place) (more : List Made) (y : Spot) (n m : ℕ) (k : Kept) → w ≡ went v p more → x ≡ next_with z (Spin y) w n k → n ≡ m → x ≡ went v (spun (m == 0) p) (more ++ made (Spin y) m ∷ [])
+  spins_on z v w x p more y n m k was is at = is ∙ (ap (λ (u : WaitView C). next_with z (Spin y) u n k) was ∙ (ap (λ (i : ℕ). next_with z (Spin y) (went v p more) i k) at ∙ ap (λ (l : List Made). record v { place = spun (m == 0) p; steps = l }) (append_assoc v.steps more (made (Spin y) m ∷ []))))
 
-  pub swaps_on : (z : Size) (v w x : WaitView C) (p : Place) (more : List Made) (c n m : ℕ) (k : Kept) → w ≡ went v p more → x ≡ next_with z (Take (Cv c) None) w n k → n ≡ m → x ≡ went v (taken (m == 0) k p) (more ++ made_with (Take (Cv c) None) m (cond (m == 0) k.list.items []) ∷ [])
-  swaps_on z v w x p more c n m k was is at = is ∙ (ap (λ (y : WaitView C). next_with z (Take (Cv c) None) y n k) was ∙ (ap (λ (i : ℕ). next_with z (Take (Cv c) None) (went v p more) i k) at ∙ ap (λ (l : List Made). record v { place = taken (m == 0) k p; steps = l }) (append_assoc v.steps more (made_with (Take (Cv c) None) m (cond (m == 0) k.list.items []) ∷ []))))
+  pub swaps_on : (z : Size) (v w x : WaitView C) (p : Place) (more : List Made) (y : Spot) (n m : ℕ) (k : Kept) → w ≡ went v p more → x ≡ next_with z (Take y None) w n k → n ≡ m → x ≡ went v (taken (m == 0) k p) (more ++ made_with (Take y None) m (cond (m == 0) k.list.items []) ∷ [])
+  swaps_on z v w x p more y n m k was is at = is ∙ (ap (λ (u : WaitView C). next_with z (Take y None) u n k) was ∙ (ap (λ (i : ℕ). next_with z (Take y None) (went v p more) i k) at ∙ ap (λ (l : List Made). record v { place = taken (m == 0) k p; steps = l }) (append_assoc v.steps more (made_with (Take y None) m (cond (m == 0) k.list.items []) ∷ []))))
 
-pub spins_append : (c : ℕ) (a b : List Made) → OnlySpins c a → OnlySpins c b → OnlySpins c (a ++ b)
-spins_append c [] b ha hb = hb
-spins_append c (m ∷ a) b ha hb = (ha.0, spins_append c a b ha.1 hb)
+pub spins_append : (x : Spot) (a b : List Made) → OnlySpins x a → OnlySpins x b → OnlySpins x (a ++ b)
+spins_append x [] b ha hb = hb
+spins_append x (m ∷ a) b ha hb = (ha.0, spins_append x a b ha.1 hb)
 
 -- A VISIT. The list was taken for the job j, changed as the job says, and is sent home
-module _ {C : Type 0} (z : Size) (v : WaitView C) (c : ℕ) (j : Job) (q : Place) (enters : top q ≡ Some (Taking j)) (s u : SeatView C) (took : List Made) (was : s.view ≡ went v (taken true (as_kept s.list s.record) q) took) (changed : u ≡ with_items s (left_list j (number_of s.view.own) s.list)) where
+module _ {C : Type 0} (z : Size) (v : WaitView C) (c : ℕ) (j : Job) (at : spot_of j ≡ Cv c) (q : Place) (enters : top q ≡ Some (Taking j)) (s u : SeatView C) (took : List Made) (was : s.view ≡ went v (taken true (as_kept s.list s.record) q) took) (changed : u ≡ with_items s (left_list j (number_of s.view.own) s.list)) where
   at_job : (r : Place) → top r ≡ Some (Taking j) → r ≡ Taking j ∷ outer r
   at_job [] e = absurd (cc)
   at_job (f ∷ r) e = ap (λ (g : Frame). g ∷ r) (cc)
@@ -104,21 +108,31 @@ module _ {C : Type 0} (z : Size) (v : WaitView C) (c : ℕ) (j : Job) (q : Place
   own_is : number_of s.view.own ≡ number_of v.own
   own_is = ap (λ (y : WaitView C). number_of y.own) was
 
+  -- a job on a condition leaves the record and the attachments
+  calm : (r : Record) (l : List (ℕ × ℕ)) → (left_record j r ≡ r) × (attached_after j r l ≡ l)
+  calm r l = by_job j at
+    where
+      by_job : (i : Job) → spot_of i ≡ Cv c → (left_record i r ≡ r) × (attached_after i r l ≡ l)
+      by_job (job.Attach b) e = absurd (cc)
+      by_job (job.Detach b) e = absurd (cc)
+      by_job i e = (refl, refl)
+
   in_hand : u.view ≡ went v (Holding j s.list s.record ∷ outer q) took
   in_hand = ap (λ (y : SeatView C). y.view) changed ∙ (was ∙ ap (λ (y : Place). went v (taken true (as_kept s.list s.record) y) took) (at_job q enters))
 
   list_is : u.list ≡ left_list j (number_of v.own) s.list
   list_is = ap (λ (y : SeatView C). y.list) changed ∙ ap (λ (o : ℕ). left_list j o s.list) own_is
 
-  pub may_free : (after : Option ℕ) → spot_of j ≡ Cv c → after ≡ target_after j v.target → c < z.cvs → Permits z (Free (Cv c) after) u.view.own u.view.target u.view.place
-  may_free after at then below = subst (λ (y : WaitView C). Permits z (Free (Cv c) after) y.own y.target y.place) (sym in_hand) (omega arith, (at, then))
+  pub may_free : (after : Option ℕ) → after ≡ target_after j v.target → c < z.cvs → Permits z (Free (Cv c) after) u.view.own u.view.target u.view.place
+  may_free after then below = subst (λ (y : WaitView C). Permits z (Free (Cv c) after) y.own y.target y.place) (sym in_hand) (omega arith, (at, then))
 
   pub sends : as_kept u.list u.record ≡ left_at (number_of u.view.own) u.view.place
-  sends = (λ i. as_kept (list_is i) (changed i).record) ∙ ap (λ (y : WaitView C). left_at (number_of y.own) y.place) (sym in_hand)
+  sends = (λ i. as_kept (list_is i) (((λ i. (changed i).record) ∙ sym (calm s.record []).0) i)) ∙ ap (λ (y : WaitView C). left_at (number_of y.own) y.place) (sym in_hand)
 
   pub visited : (x : WaitView C) (after : Option ℕ) (n : ℕ) (k : Kept) → x ≡ next_with z (Free (Cv c) after) u.view n k → x ≡ stands v (goes_on j (number_of v.own) s.list (outer q)) after (heeds_after j (number_of v.own) s.list v.heeds) (took ++ made_with (Free (Cv c) after) n (left_list j (number_of v.own) s.list) ∷ [])
   visited x after n k is = is ∙ (ap (λ (y : WaitView C). next_with z (Free (Cv c) after) y n k) in_hand
-      ∙ ap (λ (l : List Made). record v { place = goes_on j (number_of v.own) s.list (outer q); steps = l; target = after; heeds = heeds_after j (number_of v.own) s.list v.heeds }) (append_assoc v.steps took (made_with (Free (Cv c) after) n (left_list j (number_of v.own) s.list) ∷ [])))
+      ∙ ap (λ (l : List Made). record v { place = goes_on j (number_of v.own) s.list (outer q); steps = l; target = after; heeds = heeds_after j (number_of v.own) s.list v.heeds; attached = attached_after j s.record v.attached }) (append_assoc v.steps took (made_with (Free (Cv c) after) n (left_list j (number_of v.own) s.list) ∷ []))
+      ∙ ap (λ (l : List (ℕ × ℕ)). record v { place = goes_on j (number_of v.own) s.list (outer q); steps = v.steps ++ (took ++ made_with (Free (Cv c) after) n (left_list j (number_of v.own) s.list) ∷ []); target = after; heeds = heeds_after j (number_of v.own) s.list v.heeds; attached = l }) (calm s.record v.attached).1)
 
 -- WHO IS WOKEN
 pub all_wide : (n m : ℕ) (l : List ℕ) → n ≤ m → AllBelow n l → AllBelow m l
@@ -166,13 +180,13 @@ pub swapped_set : (n : ℕ) → n ≤ 1 → (n ≡ 0 → ⊥) → n ≡ 1
 swapped_set n most set = omega (arith, most, set)
 
 -- what a list tells whoever takes it, where the call begins with that
-pub tells_first : (z : Size) (own c : ℕ) (o t : Option ℕ) (b : Option Call) (p : Place) (l : List ℕ) → Permits z (Take (Cv c) b) o t p → TellsList z own (belongs_at t p) c l → TellsList z own (belongs_at t (entering b t p)) c l
-tells_first z own c o t None p l ok tells = tells
-tells_first z own c o (Some d) (Some b) p l ok tells = record { all = tells.all; few = tells.few; once = tells.once; mine = tells.mine; room = tells.room }
-tells_first z own c o None (Some b) p l ok tells = record { all = tells.all; few = tells.few; once = tells.once; mine = λ on. absurd (nowhere (tells.mine on)); room = tells.room }
+pub tells_first : (z : Size) (own : ℕ) (x : Spot) (o t : Option ℕ) (b : Option Call) (p : Place) (l : List ℕ) → Permits z (Take x b) o t p → TellsList z own (belongs_at t p) (slot_of x) l → TellsList z own (belongs_at t (entering b t p)) (slot_of x) l
+tells_first z own x o t None p l ok tells = tells
+tells_first z own x o (Some d) (Some b) p l ok tells = record { all = tells.all; few = tells.few; once = tells.once; mine = tells.mine; room = tells.room }
+tells_first z own x o None (Some b) p l ok tells = record { all = tells.all; few = tells.few; once = tells.once; mine = λ on. absurd (nowhere (tells.mine on)); room = tells.room }
   where
-    nowhere : belongs_at None p ≡ Some c → ⊥
-    nowhere e = let none : belongs_at None p ≡ None = ap (λ (r : Place). belongs_at None r) (idle None b p (Cv c) ok.1 ok.3) in cc
+    nowhere : belongs_at None p ≡ Some (slot_of x) → ⊥
+    nowhere e = let none : belongs_at None p ≡ None = ap (λ (r : Place). belongs_at None r) (idle None b p x ok.1 ok.3) in cc
 
 pub belongs_nowhere : (c : ℕ) (t : Option ℕ) (q : Place) → top q ≡ Some (Taking (job.Prepare c)) → t ≡ None → belongs_at t q ≡ None
 belongs_nowhere c t [] at none = absurd (cc)
@@ -197,26 +211,38 @@ stands_through v w x p r t u h k more rest was is = is ∙ (ap (λ (y : WaitView
 pub roused : {C : Type 0} (v w x : WaitView C) (p r : Place) (t : Option ℕ) (h : Bool) (o : Option ℕ) (visit sets : List Made) → w ≡ stands v p t h visit → x ≡ went w (after_wake o w.place) sets → after_wake o p ≡ r → x ≡ stands v r t h (visit ++ sets)
 roused v w x p r t h o visit sets was is ends = is ∙ (ap (λ (y : WaitView _). went y (after_wake o y.place) sets) was ∙ (λ i. record v { place = ends i; steps = append_assoc v.steps visit sets i; target = t; heeds = h }))
 
-pub signal_first : (c : ℕ) (t : Option ℕ) → takes_first t (call.Signal c) ≡ Some c
+pub signal_first : (c : ℕ) (t : Option ℕ) → takes_first t (call.Signal c) ≡ Some (Cv c)
 signal_first c None = refl
 signal_first c (Some d) = refl
 
+-- a call on conditions asks nothing of the client
+pub asks_nothing : {C : Type 0} (means : Meanings C) (z : Size) (c : ℕ) (o : Option ℕ) (b : Option Call) (v : WaitView C) → Permits z (Take (Cv c) b) o v.target v.place → StepSuits means (Take (Cv c) b) v
+asks_nothing means z c o None v ok = tt
+asks_nothing means z c o (Some b) v ok = by_call b v.target ok.1
+  where
+    by_call : (b : Call) (t : Option ℕ) → takes_first t b ≡ Some (Cv c) → StepSuits means (Take (Cv c) (Some b)) v
+    by_call (call.Attach a) None is = absurd (cc)
+    by_call (call.Attach a) (Some d) is = absurd (cc)
+    by_call (call.Detach a) None is = absurd (cc)
+    by_call (call.Detach a) (Some d) is = absurd (cc)
+    by_call b t is = tt
+
 -- a call that leaves the list of its target first
-pub cancel_first : (t : Option ℕ) → takes_first t call.Cancel ≡ t
+pub cancel_first : (t : Option ℕ) → takes_first t call.Cancel ≡ spot_for t
 cancel_first None = refl
 cancel_first (Some d) = refl
 
-other_first : (d c : ℕ) → Some d ≢ Some c → takes_first (Some d) (call.Sleep c) ≡ Some d
-other_first d c ne = ap (λ (b : Bool). cond {A = Option ℕ} b None (Some d)) (ne_eqb d c (λ e. ne (ap (λ (n : ℕ). Some n) e)))
+other_first : (d c : ℕ) → Some d ≢ Some c → takes_first (Some d) (call.Sleep c) ≡ Some (Cv d)
+other_first d c ne = ap (λ (b : Bool). cond {A = Option Spot} b None (Some (Cv d))) (ne_eqb d c (λ e. ne (ap (λ (n : ℕ). Some n) e)))
 
 pub listing_begins : (z : Size) (c d : ℕ) (o t : Option ℕ) (b : Call) (p : Place) → IsListing c t b → t ≡ Some d → d < z.cvs → c < z.cvs → MayBegin b p → Permits z (Take (Cv d) (Some b)) o t p
 listing_begins z c d o t (call.Prepare e) p is at inside below may = subst (λ (x : Option ℕ). Permits z (Take (Cv d) (Some (call.Prepare e))) o x p) (sym at) (omega arith, refl, omega (arith, is), may)
-listing_begins z c d o t (call.Sleep e) p is at inside below may = subst (λ (x : Option ℕ). Permits z (Take (Cv d) (Some (call.Sleep e))) o x p) (sym at) (omega arith, ap spot_for (other_first d e (λ same. is.1 (at ∙ (same ∙ ap (λ (n : ℕ). Some n) is.0)))), omega (arith, is.0), may)
+listing_begins z c d o t (call.Sleep e) p is at inside below may = subst (λ (x : Option ℕ). Permits z (Take (Cv d) (Some (call.Sleep e))) o x p) (sym at) (omega arith, other_first d e (λ same. is.1 (at ∙ (same ∙ ap (λ (n : ℕ). Some n) is.0))), omega (arith, is.0), may)
 listing_begins z c d o t b p is at inside below may = absurd is
 
 pub listing_joins : (z : Size) (c : ℕ) (o t : Option ℕ) (b : Call) (p : Place) → IsListing c t b → t ≡ None → c < z.cvs → MayBegin b p → Permits z (Take (Cv c) (Some b)) o t p
-listing_joins z c o t (call.Prepare e) p is at below may = subst (λ (x : Option ℕ). Permits z (Take (Cv c) (Some (call.Prepare e))) o x p) (sym at) (omega arith, ap (λ (n : ℕ). spot_for (Some n)) is, omega (arith, is), may)
-listing_joins z c o t (call.Sleep e) p is at below may = subst (λ (x : Option ℕ). Permits z (Take (Cv c) (Some (call.Sleep e))) o x p) (sym at) (omega arith, ap (λ (n : ℕ). spot_for (Some n)) is.0, omega (arith, is.0), may)
+listing_joins z c o t (call.Prepare e) p is at below may = subst (λ (x : Option ℕ). Permits z (Take (Cv c) (Some (call.Prepare e))) o x p) (sym at) (omega arith, ap (λ (n : ℕ). Some (Cv n)) is, omega (arith, is), may)
+listing_joins z c o t (call.Sleep e) p is at below may = subst (λ (x : Option ℕ). Permits z (Take (Cv c) (Some (call.Sleep e))) o x p) (sym at) (omega arith, ap (λ (n : ℕ). Some (Cv n)) is.0, omega (arith, is.0), may)
 listing_joins z c o t b p is at below may = absurd is
 
 pub listing_leaves_at : (c d : ℕ) (t : Option ℕ) (b : Call) (p : Place) → IsListing c t b → t ≡ Some d → entering (Some b) t p ≡ Taking (job.Cancel d) ∷ Preparing c ∷ p

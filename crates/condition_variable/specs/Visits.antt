@@ -1,5 +1,6 @@
 -- How a condition's list is taken, changed and sent home, by the steps that stand in the seat's view.
 use Rattle.std.specs.Prelude.{◌≡◌, ◌⊎◌, ℕ, ◌<◌, Bool, List, [], ◌∷◌, ◌++◌, Option, None, Some, ⊤}
+use Rattle.wait_core.specs.declared.step.Spot.{Spot}
 use Rattle.wait_core.specs.declared.step.Spot.TheVariants.{Cv}
 use Rattle.wait_core.specs.declared.step.Call.{Call}
 use Rattle.wait_core.specs.declared.step.Call.TheVariants as call
@@ -28,28 +29,28 @@ abbrev pub entering : Option Call → Option ℕ → Place → Place
 entering None target p = p
 entering (Some c) target p = entered target c p
 
--- The step looks at the spin word of c, which somebody has: it loads it, or swaps it and finds it taken
-abbrev pub IsSpin : ℕ → WaitStep → ℕ → Type 0
-IsSpin c (Spin x) n = x ≡ Cv c
-IsSpin c (Take x None) n = (x ≡ Cv c) × (n ≡ 1)
-IsSpin c (Take x (Some b)) n = ⊥
-IsSpin c k n = ⊥
+-- The step looks at the spin word x, which somebody has: it loads it, or swaps it and finds it taken
+abbrev pub IsSpin : Spot → WaitStep → ℕ → Type 0
+IsSpin x (Spin y) n = y ≡ x
+IsSpin x (Take y None) n = (y ≡ x) × (n ≡ 1)
+IsSpin x (Take y (Some b)) n = ⊥
+IsSpin x k n = ⊥
 
-abbrev pub OnlySpins : ℕ → List Made → Type 0
-OnlySpins c [] = ⊤
-OnlySpins c (m ∷ more) = IsSpin c m.step m.found × OnlySpins c more
+abbrev pub OnlySpins : Spot → List Made → Type 0
+OnlySpins x [] = ⊤
+OnlySpins x (m ∷ more) = IsSpin x m.step m.found × OnlySpins x more
 
--- The spin word of c was taken, and the list was found so: at the first step, or where somebody had it after some more
-abbrev pub Takes : ℕ → Option Call → List ℕ → List Made → Type 0
-Takes c begins found more = (more ≡ made_with (Take (Cv c) begins) 0 found ∷ [])
-    ⊎ ((spins : List Made) × (more ≡ made (Take (Cv c) begins) 1 ∷ spins ++ made_with (Take (Cv c) None) 0 found ∷ []) × OnlySpins c spins)
+-- The spin word x was taken, and the list was found so: at the first step, or where somebody had it after some more
+abbrev pub Takes : Spot → Option Call → List ℕ → List Made → Type 0
+Takes x begins found more = (more ≡ made_with (Take x begins) 0 found ∷ [])
+    ⊎ ((spins : List Made) × (more ≡ made (Take x begins) 1 ∷ spins ++ made_with (Take x None) 0 found ∷ []) × OnlySpins x spins)
 
 -- the list of c was found so, and was left so; then the target was this
 pub record Visits (c : ℕ) (begins : Option Call) (found left : List ℕ) (target : Option ℕ) (more : List Made) : Type 0 where
   pub took : List Made
   pub word : ℕ
   pub split : more ≡ took ++ made_with (Free (Cv c) target) word left ∷ []
-  pub takes : Takes c begins found took
+  pub takes : Takes (Cv c) begins found took
 
 -- The latch of q was found set; or it was stored, and q was found not to sleep; or it was stored, and q was woken
 abbrev pub SetsLatch : ℕ → List Made → Type 0

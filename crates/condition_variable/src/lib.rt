@@ -6,6 +6,7 @@ mod list;
 mod prepare;
 mod rousing;
 mod sleeping;
+mod taking;
 #[cfg(test)]
 mod tests;
 mod waking;
@@ -13,4 +14,5 @@ mod waking;
 pub use prepare::{cancel_sleep, prepare_to_sleep};
 pub use rousing::broadcast;
 pub use sleeping::{Slept, sleep};
+pub use taking::take_spot;
 pub use waking::signal;

@@ -1,91 +1,16 @@
-//! A condition's list: how it is taken in hand, and what a call makes of it.
-ghost use Rattle.std.specs.Prelude.{◌≡◌, ◌≤◌, ◌<◌, List, [], ◌∷◌, ◌++◌, None, true, false, not, cond, length};
-ghost use Rattle.wait_core.specs.declared.step.Spot.TheVariants.{Cv};
-ghost use Rattle.wait_core.specs.declared.step.WaitStep.TheVariants as kind;
+//! A condition's list in hand, and what a call makes of it.
+ghost use Rattle.std.specs.Prelude.{◌≡◌, ◌<◌, List, [], ◌∷◌, ◌++◌, false, not, cond, length};
 ghost use Rattle.wait_core.specs.declared.view.Made.{Made};
 ghost use Rattle.wait_core.specs.Lists.{AllBelow, is_empty, is_listed, rest_of, without};
-ghost use Rattle.wait_core.specs.Machine.{Allowed, MaySpin, MayTake, as_kept, made_with, number_of, spun, taken, top};
-ghost use Rattle.wait_core.specs.Seats.{size_of};
-ghost use Rattle.wait_core.specs.Stances.{belongs_at};
-ghost use Rattle.wait_core.specs.Told.{TellsList};
+ghost use Rattle.wait_core.specs.Machine.{number_of};
 ghost use Rattle.latch.specs.Reads.{went};
-ghost use Rattle.condition_variable.specs.Visits.{MayWakeNow, OnlySpins, Takes, Wakes, after_wake, entering, head_of, with_items};
+ghost use Rattle.condition_variable.specs.Visits.{MayWakeNow, Wakes, after_wake, head_of, with_items};
 ghost use Rattle.condition_variable.specs.Calls.{other, relisted};
 
 use arrayvec::ArrayVec;
-use crossbeam_utils::Backoff;
 use latch::set_latch;
-use proc_table::{CvNo, ProcNo};
-use std::sync::Wait;
-use wait_core::{Call, Party, Spot, WaitSeat, WaitStep, WaitTable};
-
-// Takes the condition's list in hand. A call may begin with it.
-pub(crate) fn take_list<P: Party, R: Wait>(
-    rt: &R,
-    table: &WaitTable<P>,
-    seat: &mut WaitSeat<P>,
-    cv: CvNo,
-    begins: Option<Call>,
-)
-    requires table { seat.old.table_id ≡ table.now.table_id }
-    requires place { Allowed (size_of table.now) (kind.Take (Cv cv) begins) seat.old.view }
-    requires condition { cv < table.now.cvs }
-    requires job { MayTake (Cv cv) (top (entering begins seat.old.view.target seat.old.view.place)) }
-    ensures table { (seat.new.table_id ≡ seat.old.table_id) × (seat.new.id ≡ seat.old.id) }
-    ensures view { (more : List Made) × (seat.new.view ≡ went seat.old.view (taken true (as_kept seat.new.list seat.new.record) (entering begins seat.old.view.target seat.old.view.place)) more) × Takes cv begins seat.new.list more }
-    ensures list { TellsList (size_of table.now) (number_of seat.old.view.own) (belongs_at seat.old.view.target (entering begins seat.old.view.target seat.old.view.place)) cv seat.new.list }
-    ensures few { table.now.procs ≤ 64 }
-{
-    let _procs = table.procs();
-    let take = WaitStep::Take(Spot::Cv(cv), begins);
-    if table.step(seat, take).old == 0 {
-        return;
-    }
-    wait_for_list(rt, table, seat, cv);
-}
-
-// The same, once it was found in another's hand.
-fn wait_for_list<P: Party, R: Wait>(rt: &R, table: &WaitTable<P>, seat: &mut WaitSeat<P>, cv: CvNo)
-    requires table { seat.old.table_id ≡ table.now.table_id }
-    requires condition { cv < table.now.cvs }
-    requires place { MaySpin (Cv cv) (top seat.old.view.place) }
-    ensures table { (seat.new.table_id ≡ seat.old.table_id) × (seat.new.id ≡ seat.old.id) }
-    ensures view { (spins : List Made) × (seat.new.view ≡ went seat.old.view (taken true (as_kept seat.new.list seat.new.record) (spun true seat.old.view.place)) (spins ++ made_with (kind.Take (Cv cv) None) 0 seat.new.list ∷ [])) × OnlySpins cv spins }
-    ensures list { TellsList (size_of table.now) (number_of seat.old.view.own) (belongs_at seat.old.view.target (spun true seat.old.view.place)) cv seat.new.list }
-{
-    let backoff = Backoff::new();
-    for _ in rt.forever() {
-        spin(rt, table, seat, cv, &backoff);
-        let take = WaitStep::Take(Spot::Cv(cv), None);
-        if table.step(seat, take).old == 0 {
-            return;
-        }
-    }
-    unreachable!()
-}
-
-// Loads the spin word until it is free.
-fn spin<P: Party, R: Wait>(
-    rt: &R,
-    table: &WaitTable<P>,
-    seat: &mut WaitSeat<P>,
-    cv: CvNo,
-    backoff: &Backoff,
-)
-    requires table { seat.old.table_id ≡ table.now.table_id }
-    requires condition { cv < table.now.cvs }
-    requires place { MaySpin (Cv cv) (top seat.old.view.place) }
-    ensures table { (seat.new.table_id ≡ seat.old.table_id) × (seat.new.id ≡ seat.old.id) }
-    ensures view { (spins : List Made) × (seat.new.view ≡ went seat.old.view (spun true seat.old.view.place) spins) × OnlySpins cv spins }
-{
-    for _ in rt.forever() {
-        backoff.snooze();
-        if table.step(seat, WaitStep::Spin(Spot::Cv(cv))).old == 0 {
-            return;
-        }
-    }
-    unreachable!()
-}
+use proc_table::ProcNo;
+use wait_core::{Party, WaitSeat, WaitTable};
 
 fn has(list: &[u32], proc: u32) -> bool
     ensures { result ≡ is_listed proc list.now }

@@ -14,7 +14,8 @@ ghost use Rattle.wait_core.specs.Seats.{size_of};
 ghost use Rattle.condition_variable.specs.Visits.{Visits, entering, stands};
 ghost use Rattle.condition_variable.specs.Calls.{Cancels, IsListing, Lists};
 
-use crate::list::{join, leave, take_list};
+use crate::list::{join, leave};
+use crate::taking::take_spot;
 use proc_table::CvNo;
 use std::sync::Wait;
 use wait_core::{Call, Party, Spot, WaitSeat, WaitStep, WaitTable};
@@ -67,7 +68,7 @@ pub(crate) fn leave_target<P: Party, R: Wait>(
     ensures table { (seat.new.table_id ≡ seat.old.table_id) × (seat.new.id ≡ seat.old.id) }
     ensures left { (found : List ℕ) × (more : List Made) × (seat.new.view ≡ stands seat.old.view (resumed (outer (entering (Some begins) seat.old.view.target seat.old.view.place))) None seat.old.view.heeds more) × Cancels (number_of seat.old.view.own) target begins found more × (result ≡ not (is_listed (number_of seat.old.view.own) found)) }
 {
-    take_list(rt, table, seat, target, Some(begins));
+    take_spot(rt, table, seat, Spot::Cv(target), Some(begins));
     let off = leave(seat);
     table.step(seat, WaitStep::Free(Spot::Cv(target), None));
     off
@@ -89,7 +90,7 @@ fn join_list<P: Party, R: Wait>(
     ensures table { (seat.new.table_id ≡ seat.old.table_id) × (seat.new.id ≡ seat.old.id) }
     ensures joined { (found : List ℕ) × (more : List Made) × (seat.new.view ≡ stands seat.old.view (resumed (outer (entering begins seat.old.view.target seat.old.view.place))) (Some cv) true more) × Visits cv begins found (found ++ number_of seat.old.view.own ∷ []) (Some cv) more }
 {
-    take_list(rt, table, seat, cv, begins);
+    take_spot(rt, table, seat, Spot::Cv(cv), begins);
     join(seat);
     table.step(seat, WaitStep::Free(Spot::Cv(cv), Some(cv)));
 }

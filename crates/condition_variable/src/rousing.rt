@@ -15,8 +15,9 @@ ghost use Rattle.latch.specs.Reads.{went};
 ghost use Rattle.condition_variable.specs.Visits.{Rouses, entering, head_of, stands};
 ghost use Rattle.condition_variable.specs.Calls.{Broadcasts, Round, RousesAll, UntilOff, signed};
 
-use crate::list::{is_on, join_others, other_than_own, pop, take_list, wake};
+use crate::list::{is_on, join_others, other_than_own, pop, wake};
 use crate::prepare::leave_target;
+use crate::taking::take_spot;
 use proc_table::CvNo;
 use std::sync::Wait;
 use wait_core::{Call, Party, Spot, WaitSeat, WaitStep, WaitTable};
@@ -80,7 +81,7 @@ fn rouse_first<P: Party, R: Wait>(
     ensures table { (seat.new.table_id ≡ seat.old.table_id) × (seat.new.id ≡ seat.old.id) }
     ensures roused { (found : List ℕ) × (more : List Made) × (result ≡ not (is_empty (rest_of found))) × (seat.new.view ≡ went seat.old.view (cond result (Taking (job.Rebroadcast cv) ∷ outer (entering begins seat.old.view.target seat.old.view.place)) (resumed (outer (entering begins seat.old.view.target seat.old.view.place)))) more) × Rouses cv begins found (signed (number_of seat.old.view.own) found) None (head_of found) more }
 {
-    take_list(rt, table, seat, cv, begins);
+    take_spot(rt, table, seat, Spot::Cv(cv), begins);
     let woken = pop(seat);
     let others = join_others(seat);
     table.step(seat, WaitStep::Free(Spot::Cv(cv), None));
@@ -119,7 +120,7 @@ fn rouse_next<P: Party, R: Wait>(
     ensures table { (seat.new.table_id ≡ seat.old.table_id) × (seat.new.id ≡ seat.old.id) }
     ensures roused { (found : List ℕ) × (more : List Made) × (result ≡ is_listed (number_of seat.old.view.own) (rest_of found)) × (seat.new.view ≡ went seat.old.view (cond result (Taking (job.Rebroadcast cv) ∷ outer seat.old.view.place) (resumed (outer seat.old.view.place))) more) × Round (number_of seat.old.view.own) cv found more }
 {
-    take_list(rt, table, seat, cv, None);
+    take_spot(rt, table, seat, Spot::Cv(cv), None);
     let popped = pop(seat);
     let listed = is_on(seat);
     table.step(seat, WaitStep::Free(Spot::Cv(cv), None));

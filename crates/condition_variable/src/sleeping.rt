@@ -11,9 +11,10 @@ ghost use Rattle.wait_core.specs.Machine.{MayBegin, made, number_of, outer};
 ghost use Rattle.condition_variable.specs.Visits.{Visits, stands};
 ghost use Rattle.condition_variable.specs.Calls.{Sleeps, relisted};
 
-use crate::list::{rejoin, take_list};
+use crate::list::{rejoin};
 use crate::prepare::go_to_list;
 use latch::{wait_in_sleep, wait_latch_only};
+use crate::taking::take_spot;
 use proc_table::CvNo;
 use std::sync::Wait;
 use wait_core::{Call, Party, Spot, WaitSeat, WaitStep, WaitTable};
@@ -83,7 +84,7 @@ fn was_signalled<P: Party, R: Wait>(
     ensures looked { (found : List ℕ) × (word : ℕ) × (look : List Made) × (result ≡ not (is_listed (number_of seat.old.view.own) found)) × (seat.new.view ≡ stands seat.old.view (cond result (resumed (outer seat.old.view.place)) (SleepWaiting cv ∷ outer seat.old.view.place)) (Some cv) (cond result true seat.old.view.heeds) (made (kind.Reset None) word ∷ look)) × Visits cv None found (relisted (number_of seat.old.view.own) found) (Some cv) look }
 {
     table.step(seat, WaitStep::Reset(None));
-    take_list(rt, table, seat, cv, None);
+    take_spot(rt, table, seat, Spot::Cv(cv), None);
     let off = rejoin(seat);
     table.step(seat, WaitStep::Free(Spot::Cv(cv), Some(cv)));
     off

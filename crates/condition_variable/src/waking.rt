@@ -7,7 +7,8 @@ ghost use Rattle.wait_core.specs.Machine.{MayBegin};
 ghost use Rattle.latch.specs.Reads.{ended};
 ghost use Rattle.condition_variable.specs.Calls.{Signals};
 
-use crate::list::{pop, take_list, wake};
+use crate::list::{pop, wake};
+use crate::taking::take_spot;
 use proc_table::{CvNo, ProcNo};
 use std::sync::Wait;
 use wait_core::{Call, Party, Spot, WaitSeat, WaitStep, WaitTable};
@@ -26,7 +27,7 @@ pub fn signal<P: Party, R: Wait>(
     ensures table { (seat.new.table_id ≡ seat.old.table_id) × (seat.new.id ≡ seat.old.id) }
     ensures signalled { (more : List Made) × (seat.new.view ≡ ended seat.old.view more) × Signals cv seat.old.view.target result more }
 {
-    take_list(rt, table, seat, cv, Some(Call::Signal(cv)));
+    take_spot(rt, table, seat, Spot::Cv(cv), Some(Call::Signal(cv)));
     let target = seat.target();
     let woken = pop(seat);
     table.step(seat, WaitStep::Free(Spot::Cv(cv), target));

@@ -164,15 +164,7 @@ impl<'r> Party for HashParty<'r> {
 
     ghost after = { λ p. after (join p) };
 
-    ghost holds = { λ p. Stands (join p) };
-
-    ghost quiet = { λ p. Quiet (join p) };
-
-    ghost passes = { λ _. Passes };
-
-    ghost enters = { λ p. Enters (join p) };
-
-    ghost stays = { λ _. Stays };
+    ghost means = { λ p. record { holds = Stands (join p); quiet = Quiet (join p); passes = Passes; enters = Enters (join p); stays = Stays } };
 
     ghost step_inside = { λ p. laws.step_inside (join p) };
 

@@ -55,16 +55,8 @@ impl Party for TwoWords {
 
     ghost after = { λ _ v t n. turned v.client t };
 
-    ghost holds = { λ _ words views phases. Balanced words views };
-
     // It takes no part in barriers: nobody attaches, and no phase passes. Its law doesn't see who is attached.
-    ghost quiet = { λ _ _ _ _. ⊤ };
-
-    ghost passes = { λ _ _ _. ⊥ };
-
-    ghost enters = { λ _ _ _. ⊥ };
-
-    ghost stays = { λ _ _ _. ⊥ };
+    ghost means = { λ _. record { holds = λ words views phases. Balanced words views; quiet = λ _ _ _. ⊤; passes = λ _ _. ⊥; enters = λ _ _. ⊥; stays = λ _ _. ⊥ } };
 
     ghost step_inside = { λ p v t h. turn_inside t };
 

@@ -1,11 +1,12 @@
 -- What a client may suppose of barriers, once a view is changed, a seat drawn or one joined. No phase passes here, and nobody attaches or is elected.
-use Rattle.std.proofs.Common.{◌≡◌, ◌≢◌, ◌⊎◌, ℕ, zero, suc, ◌==◌, cond, List, [], ◌∷◌, ◌++◌, set, Option, None, Some, refl, sym, ap, ◌∙◌, subst, ⊎_elim, inl, inr, arith}
+use Rattle.std.proofs.Common.{◌≡◌, ◌≢◌, ◌⊎◌, ℕ, zero, suc, ◌<◌, ◌≤◌, ◌==◌, cond, List, [], ◌∷◌, ◌++◌, length, set, Option, None, Some, refl, sym, ap, ◌∙◌, subst, ⊎_elim, inl, inr, arith}
 use Rattle.std.proofs.lemmas.Bool.Decides.{nat_tests}
 use mathlib.Core.Option as maybe
 use lib.ListN.{get_elem?}
 use Rattle.atomic_table.proofs.Lists.{at_set, at_snoc}
 use Rattle.wait_core.specs.declared.view.PartyView.{PartyView}
-use Rattle.wait_core.specs.Parties.{phase_of, Elected, newcomer, joined, left_over, Barriers}
+use Rattle.seat_roster.proofs.Stretches.{each_set}
+use Rattle.wait_core.specs.Parties.{phase_of, now, Elected, newcomer, joined, left_over, Barriers}
 
 -- an election among two lists is of one of them
 elected_either : (xs ys : List (ℕ × ℕ)) (b ph k : ℕ) → get_elem? (xs ++ ys) k ≡ maybe.some (b, ph) → Elected xs b ph ⊎ Elected ys b ph
@@ -44,6 +45,21 @@ module _ {C : Type 0} where
     attached = λ i u e b ph a. ⊎_elim (λ (t : (i ≡ id) × (w ≡ u)). (id, v, at, ap (λ (l : List (ℕ × ℕ)). phase_of l b) (sym same ∙ ap (λ (x : PartyView C). x.attached) t.1) ∙ a)) (λ (t : (i ≢ id) × (get_elem? views i ≡ maybe.some u)). (i, u, t.1, a)) (at_set views id i w u e);
     elected = λ i u e b ph a. ⊎_elim (λ (t : (i ≡ id) × (w ≡ u)). (id, v, at, subst (λ (l : List (ℕ × ℕ)). Elected l b ph) (sym (sym won ∙ ap (λ (x : PartyView C). x.elections) t.1)) a, t.0)) (λ (t : (i ≢ id) × (get_elem? views i ≡ maybe.some u)). (i, u, t.1, a, refl)) (at_set views id i w u e);
   }
+
+  -- a view is changed, and is elected as before; of each barrier that it is attached to it knows the phase
+  pub barriers_reattached : (views : List (PartyView C)) (phases : List ℕ) (id : ℕ) (v w : PartyView C) → get_elem? views id ≡ maybe.some v → Barriers views phases → w.elections ≡ v.elections
+      → ((b ph : ℕ) → phase_of w.attached b ≡ Some ph → (now phases b ≡ ph) × (b < length phases)) → Barriers (set views id w) phases
+  barriers_reattached views phases id v w at h won knows = record {
+    near = each_set (λ (u : PartyView C). (b ph : ℕ) → phase_of u.attached b ≡ Some ph → (now phases b ≡ ph) ⊎ (now phases b ≡ suc ph)) views id w h.near (λ b ph a. inl (knows b ph a).0);
+    inside = each_set (λ (u : PartyView C). (b ph : ℕ) → phase_of u.attached b ≡ Some ph → b < length phases) views id w h.inside (λ b ph a. (knows b ph a).1);
+    past = each_set (λ (u : PartyView C). (b ph : ℕ) → Elected u.elections b ph → ph ≤ now phases b) views id w h.past (λ b ph a. h.past id v at b ph (subst (λ (l : List (ℕ × ℕ)). Elected l b ph) won a));
+    one = λ i j u x e f b ph a c. let p = was i u e b ph a in let q = was j x f b ph c in h.one i j p.0 q.0 p.1 q.1 b ph p.2 q.2;
+  }
+    where
+      was : (i : ℕ) (u : PartyView C) → get_elem? (set views id w) i ≡ maybe.some u → (b ph : ℕ) → Elected u.elections b ph → (x : PartyView C) × (get_elem? views i ≡ maybe.some x) × Elected x.elections b ph
+      was i u e b ph a = ⊎_elim
+          (λ (t : (i ≡ id) × (w ≡ u)). (v, ap (get_elem? views) t.0 ∙ at, subst (λ (l : List (ℕ × ℕ)). Elected l b ph) (ap (λ (x : PartyView C). x.elections) (sym t.1) ∙ won) a))
+          (λ (t : (i ≢ id) × (get_elem? views i ≡ maybe.some u)). (u, t.1, a)) (at_set views id i w u e)
 
   -- a seat is drawn
   pub barriers_more : (views : List (PartyView C)) (phases : List ℕ) (c : C) (own : Option ℕ) → Barriers views phases → Barriers (views ++ newcomer c own ∷ []) phases

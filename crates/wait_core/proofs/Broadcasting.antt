@@ -19,13 +19,14 @@ use Rattle.wait_core.specs.declared.view.PartyView.{PartyView}
 use Rattle.wait_core.specs.declared.view.Record.{Record}
 use Rattle.wait_core.specs.declared.view.Size.{Size}
 use Rattle.wait_core.specs.declared.view.WaitView.{WaitView}
+use Rattle.wait_core.specs.Meanings.{Meanings}
 use Rattle.seat_roster.specs.Roster.{times}
 use Rattle.seat_roster.proofs.Numbers.{one_seat}
 use Rattle.seat_roster.proofs.Stretches.{unseen}
 use Rattle.seat_roster.proofs.Totals.{total_snoc, set_there}
-use Rattle.wait_core.specs.Words.{spin_at, client_base}
+use Rattle.wait_core.specs.Words.{slot_of, spin_at, client_base, slots_in}
 use Rattle.wait_core.specs.Lists.{precedes}
-use Rattle.wait_core.specs.Jobs.{condition_of, spot_of, left_list, target_after, goes_on}
+use Rattle.wait_core.specs.Jobs.{spot_of, left_list, target_after, goes_on}
 use Rattle.wait_core.specs.Machine.{WaitState, Place, number_of, word_of, becomes, left_at, home_in, slot_number, act_of, carried, freed, target_then, Permits, next_with, after}
 use Rattle.wait_core.specs.Seating.{numbers_of, standing_of, client_moved, with_drawn, stays, comes, took_in, spent_view}
 use Rattle.wait_core.specs.Fits.{Fits}
@@ -142,10 +143,10 @@ left_is o p j list found rest e = ap (λ (x : Place). (left_at o x).list.items) 
 -- the state after the step k of the backend o
 abbrev pub moved : {C : Type 0} → Size → WaitState C → ℕ → WaitView C → ℕ → WaitStep → WaitState C
 moved z s id v o k =
-    let i : ℕ = word_of z o k in let n : ℕ = get_or s.words i 0 in let found : Kept = home_in s.homes (slot_number z k) in
-    stepped s i (becomes k n) id (carried z k o v.place) (next_with z k v n found) (act_of z k n found)
+    let i : ℕ = word_of z o k in let n : ℕ = get_or s.words i 0 in let found : Kept = home_in s.homes (slot_number k) in
+    stepped s i (becomes k n) id (carried k o v.place) (next_with z k v n found) (act_of k n found)
 
-module _ {C : Type 0} (holds : List ℕ → List (PartyView C) → List ℕ → Type 0) (z : Size) (phase count : ℕ) (s : WaitState C) (r : Rule holds z phase count s) where
+module _ {C : Type 0} (means : Meanings C) (z : Size) (phase count : ℕ) (s : WaitState C) (r : Rule means z phase count s) where
   abbrev seats : List Stance
   seats = map stance_of s.views
 
@@ -164,43 +165,43 @@ module _ {C : Type 0} (holds : List ℕ → List (PartyView C) → List ℕ → 
     there = at_map stance_of s.views id v at
 
     below : o < z.procs
-    below = own_below holds z phase count s r id v o at own
+    below = own_below means z phase count s r id v o at own
 
     fits : Fits z.cvs v.target v.place
     fits = r.places.fits id (standing_of v) (at_map standing_of s.views id v at)
 
     -- the turn of its step
-    turned : (k : WaitStep) → Permits z k (Some o) v.target v.place → Turn z s.words s.homes (moved z s id v o k).homes (word_of z o k) (becomes k (get_or s.words (word_of z o k) 0)) (stance_of v) (stance_of (next_with z k v (get_or s.words (word_of z o k) 0) (home_in s.homes (slot_number z k))))
-    turned k ok = let inside = word_inside z o k v.target v.place below ok in view_turns z s.words s.homes o below v k (λ x less none. (r.lists.hands x less).at_home none) own ok fits (r.flags (word_of z o k) inside.0 inside.1)
+    turned : (k : WaitStep) → Permits z k (Some o) v.target v.place → Turn z s.words s.homes (moved z s id v o k).homes (word_of z o k) (becomes k (get_or s.words (word_of z o k) 0)) (stance_of v) (stance_of (next_with z k v (get_or s.words (word_of z o k) 0) (home_in s.homes (slot_number k))))
+    turned k ok = let inside = word_inside z o k r.sized.cvs v.target v.place below ok in view_turns z r.sized.cvs s.words s.homes o below v k (λ x less none. (r.lists.hands x less).at_home none) own ok fits (r.flags (word_of z o k) inside.0 inside.1)
 
-    module _ (j : Job) (list : List ℕ) (found : Record) (rest : Place) (place : v.place ≡ Holding j list found ∷ rest) (inside : condition_of j < z.cvs + z.bars) where
-      hand : (stance_of v).hand ≡ in_hand (condition_of j) list
+    module _ (j : Job) (list : List ℕ) (found : Record) (rest : Place) (place : v.place ≡ Holding j list found ∷ rest) (inside : slot_of (spot_of j) < slots_in z) where
+      hand : (stance_of v).hand ≡ in_hand (slot_of (spot_of j)) list
       hand = ap hand_at place
 
-      out : get_elem? s.homes (condition_of j) ≡ maybe.some maybe.none
-      out = home_out z s.words s.homes seats wide spins r.lists.hands id (condition_of j) (stance_of v) list there inside hand
+      out : get_elem? s.homes (slot_of (spot_of j)) ≡ maybe.some maybe.none
+      out = home_out z s.words s.homes seats wide spins r.lists.hands id (slot_of (spot_of j)) (stance_of v) list there inside hand
 
-      counted : (f : List ℕ → ℕ) → f [] ≡ 0 → amount_on f (condition_of j) s.homes seats ≡ f list
-      counted f none = amount_held f none s.homes seats id (condition_of j) (stance_of v) list there (one_hand z s.words s.homes seats wide spins r.lists.hands (condition_of j) inside) out hand
+      counted : (f : List ℕ → ℕ) → f [] ≡ 0 → amount_on f (slot_of (spot_of j)) s.homes seats ≡ f list
+      counted f none = amount_held f none s.homes seats id (slot_of (spot_of j)) (stance_of v) list there (one_hand z s.words s.homes seats wide spins r.lists.hands (slot_of (spot_of j)) inside) out hand
 
       once : (q : ℕ) → times q list ≤ 1
-      once q = let count = counted (times q) refl in let low = r.lists.listed q (condition_of j) inside in let most = counts_most seats q (condition_of j) (λ (u : Stance). u.belongs) alone in omega arith
+      once q = let count = counted (times q) refl in let low = r.lists.listed q (slot_of (spot_of j)) inside in let most = counts_most seats q (slot_of (spot_of j)) (λ (u : Stance). u.belongs) alone in omega arith
 
       -- who belongs nowhere isn't on it
       not_mine : (stance_of v).belongs ≡ None → times o list ≡ 0
-      not_mine none = let count = counted (times o) refl in let low = r.lists.listed o (condition_of j) inside in
-          let mine = own_counts seats alone id o (stance_of v) (stance_of v) there own refl (λ (u : Stance). u.belongs) (condition_of j) in let no = ap (is_just (condition_of j)) none in omega arith
+      not_mine none = let count = counted (times o) refl in let low = r.lists.listed o (slot_of (spot_of j)) inside in
+          let mine = own_counts seats alone id o (stance_of v) (stance_of v) there own refl (λ (u : Stance). u.belongs) (slot_of (spot_of j)) in let no = ap (is_just (slot_of (spot_of j))) none in omega arith
 
       -- its free
-      freed_goes : (p : ℕ) (k : WaitStep) → Permits z k (Some o) v.target v.place → v.target ≡ None → target_after j None ≡ None → 1 ≤ times p list → Goes p o (condition_of j) (left_list j o list) (goes_on j o list rest) → (list' : List ℕ)
-          → TakesOff p (condition_of j) s id (moved z s id v o k) ⊎ Covers id o (condition_of j) p list' (moved z s id v o k)
+      freed_goes : (p : ℕ) (k : WaitStep) → Permits z k (Some o) v.target v.place → v.target ≡ None → target_after j None ≡ None → 1 ≤ times p list → Goes p o (slot_of (spot_of j)) (left_list j o list) (goes_on j o list rest) → (list' : List ℕ)
+          → TakesOff p (slot_of (spot_of j)) s id (moved z s id v o k) ⊎ Covers id o (slot_of (spot_of j)) p list' (moved z s id v o k)
       freed_goes p k ok free still some goes list' = let f = freed_next z k (Some o) v.target j list found rest (subst (λ (x : Place). Permits z k (Some o) v.target x) place ok) in
-          subst (λ (x : WaitStep). TakesOff p (condition_of j) s id (moved z s id v o x) ⊎ Covers id o (condition_of j) p list' (moved z s id v o x)) (sym f.1) (by_free f.0 (f.2 ∙ (ap (target_after j) free ∙ still)))
+          subst (λ (x : WaitStep). TakesOff p (slot_of (spot_of j)) s id (moved z s id v o x) ⊎ Covers id o (slot_of (spot_of j)) p list' (moved z s id v o x)) (sym f.1) (by_free f.0 (f.2 ∙ (ap (target_after j) free ∙ still)))
         where
-          by_free : (a : Option ℕ) → a ≡ None → TakesOff p (condition_of j) s id (moved z s id v o (Free (spot_of j) a)) ⊎ Covers id o (condition_of j) p list' (moved z s id v o (Free (spot_of j) a))
+          by_free : (a : Option ℕ) → a ≡ None → TakesOff p (slot_of (spot_of j)) s id (moved z s id v o (Free (spot_of j) a)) ⊎ Covers id o (slot_of (spot_of j)) p list' (moved z s id v o (Free (spot_of j) a))
           by_free a none =
-              let k' : WaitStep = Free (spot_of j) a in let n : ℕ = get_or s.words (word_of z o k') 0 in let w : WaitView C = next_with z k' v n (home_in s.homes (slot_number z k')) in
-              let c : ℕ = condition_of j in let kept : Kept = left_at o v.place in
+              let k' : WaitStep = Free (spot_of j) a in let n : ℕ = get_or s.words (word_of z o k') 0 in let w : WaitView C = next_with z k' v n (home_in s.homes (slot_number k')) in
+              let c : ℕ = slot_of (spot_of j) in let kept : Kept = left_at o v.place in
               let place' : w.place ≡ goes_on j o list rest = ap (λ (x : ℕ). freed x v.place) (ap number_of own) ∙ ap (freed o) place in
               let seen : map stance_of (set s.views id w) ≡ set seats id (stance_of w) = map-set stance_of s.views id w in
               let items = left_is o v.place j list found rest place in
@@ -236,7 +237,7 @@ module _ {C : Type 0} (holds : List ℕ → List (PartyView C) → List ℕ → 
       own_first : 1 ≤ times p list → (a : AtFirstTake id q c list s) (k : WaitStep) → Permits z k (Some q) a.view.target a.view.place → TakesOff p c s id (moved z s id a.view q k) ⊎ Covers id q c p list (moved z s id a.view q k)
       own_first some a k ok =
           let fit = subst (Fits z.cvs a.view.target) a.place (fits id q a.view a.at a.own) in let few = fit.0 in
-          let inside : c < z.cvs + z.bars = omega arith in
+          let most = r.sized.cvs in let inside : c < slots_in z = omega arith in
           freed_goes id q a.view a.at a.own (job.Broadcast c) list a.found a.rest a.place inside p k ok fit.1 refl some
           (subst (λ (x : Place). Goes p q c (left_list (job.Broadcast c) q list) (goes_on (job.Broadcast c) q list x)) (sym fit.2) (broadcast_goes p q c list ne (once id q a.view a.at a.own (job.Broadcast c) list a.found a.rest a.place inside p) some)) list
 
@@ -245,12 +246,12 @@ module _ {C : Type 0} (holds : List ℕ → List (PartyView C) → List ℕ → 
           (h.4 ∙ ap (λ (j : Job). Holding j h.1 h.2 ∷ h.3) (is_rebroadcast h.0 c (sym (ap sentinel_at h.4) ∙ b.sentinel)))) (hand_or_none b.view.place)
         where
           w : WaitView C
-          w = next_with z k b.view (get_or s.words (word_of z q k) 0) (home_in s.homes (slot_number z k))
+          w = next_with z k b.view (get_or s.words (word_of z q k) 0) (home_in s.homes (slot_number k))
 
           by_hand : (l : List ℕ) (found : Record) (rest : Place) → b.view.place ≡ Holding (job.Rebroadcast c) l found ∷ rest → TakesOff p c s id (moved z s id b.view q k) ⊎ Covers id q c p list (moved z s id b.view q k)
           by_hand l found rest place =
               let fit = subst (Fits z.cvs b.view.target) place (fits id q b.view b.at b.own) in let few = fit.0 in
-              let inside : c < z.cvs + z.bars = omega arith in let order = counted id q b.view b.at b.own (job.Rebroadcast c) l found rest place inside (precedes p q) refl in let behind = b.behind in
+              let most = r.sized.cvs in let inside : c < slots_in z = omega arith in let order = counted id q b.view b.at b.own (job.Rebroadcast c) l found rest place inside (precedes p q) refl in let behind = b.behind in
               let before : 1 ≤ precedes p q l = omega arith in
               let one = once id q b.view b.at b.own (job.Rebroadcast c) l found rest place inside in
               freed_goes id q b.view b.at b.own (job.Rebroadcast c) l found rest place inside p k ok fit.1 refl (stands_there p q l before)
@@ -279,9 +280,9 @@ module _ {C : Type 0} (holds : List ℕ → List (PartyView C) → List ℕ → 
 
       -- the step of another
       other_goes : (j o : ℕ) (u : WaitView C) (at : get_elem? s.views j ≡ maybe.some u) (own : u.own ≡ Some o) → j ≢ id → (k : WaitStep) → Permits z k (Some o) u.target u.place → Covers id q c p list s → TakesOff p c s j (moved z s j u o k) ⊎ Covers id q c p list (moved z s j u o k)
-      other_goes j o u at own apart k ok (inl a) = inr (inl record { view = a.view; at = set_else s.views j id (next_with z k u (get_or s.words (word_of z o k) 0) (home_in s.homes (slot_number z k))) (λ e. apart (sym e)) ∙ a.at; own = a.own; found = a.found; rest = a.rest; place = a.place })
+      other_goes j o u at own apart k ok (inl a) = inr (inl record { view = a.view; at = set_else s.views j id (next_with z k u (get_or s.words (word_of z o k) 0) (home_in s.homes (slot_number k))) (λ e. apart (sym e)) ∙ a.at; own = a.own; found = a.found; rest = a.rest; place = a.place })
       other_goes j o u at own apart k ok (inr b) =
-          let w : WaitView C = next_with z k u (get_or s.words (word_of z o k) 0) (home_in s.homes (slot_number z k)) in let seen = map-set stance_of s.views j w in
+          let w : WaitView C = next_with z k u (get_or s.words (word_of z o k) 0) (home_in s.homes (slot_number k)) in let seen = map-set stance_of s.views j w in
           ⊎_elim (λ off. inl record {
             was = off.was;
             gone = subst (λ (l : List Stance). times_on p c (moved z s j u o k).homes l ≡ 0) (sym seen) off.gone;
@@ -314,12 +315,12 @@ module _ {C : Type 0} (holds : List ℕ → List (PartyView C) → List ℕ → 
           by_own same (inl a) = same_state a.view a.at a.own same (λ may. own_first some a k may)
           by_own same (inr b) = same_state b.view b.at b.own same (λ may. own_later b k may)
 
-module _ {C X : Type 0} (does : X → ClientOp) (may : PartyView C → X → Type 0) (then : PartyView C → X → ℕ → C) (first spent : C) (both : C → C → C) (holds : List ℕ → List (PartyView C) → List ℕ → Type 0) (z : Size) (phase count : ℕ)
-    (keeps : (s t : WaitState C) (e : ℕ × Deed X) → Rule holds z phase count s → Steps does may then first spent both z s e t → Rule holds z phase count t)
+module _ {C X : Type 0} (does : X → ClientOp) (may : PartyView C → X → Type 0) (then : PartyView C → X → ℕ → C) (first spent : C) (both : C → C → C) (means : Meanings C) (z : Size) (phase count : ℕ)
+    (keeps : (s t : WaitState C) (e : ℕ × Deed X) → Rule means z phase count s → Steps does may then first spent both means z s e t → Rule means z phase count t)
     (id q c p : ℕ) (list : List ℕ) (ne : p ≢ q) (some : 1 ≤ times p list) where
-  deed_goes : (s t : WaitState C) → Rule holds z phase count s → (j o : ℕ) (u : WaitView C) → get_elem? s.views j ≡ maybe.some u → u.own ≡ Some o → (d : Deed X) → Deeds does may then first spent both z s j u d t → Covers id q c p list s → TakesOff p c s j t ⊎ Covers id q c p list t
-  deed_goes s t r j o u at own (machine k) h covers = subst (λ (x : WaitState C). TakesOff p c s j x ⊎ Covers id q c p list x) (sym (h.1 ∙ same))
-      (machine_goes holds z phase count s r id q c p list ne some j o u at own k (subst (λ (x : Option ℕ). Permits z k x u.target u.place) own h.0) covers)
+  deed_goes : (s t : WaitState C) → Rule means z phase count s → (j o : ℕ) (u : WaitView C) → get_elem? s.views j ≡ maybe.some u → u.own ≡ Some o → (d : Deed X) → Deeds does may then first spent both means z s j u d t → Covers id q c p list s → TakesOff p c s j t ⊎ Covers id q c p list t
+  deed_goes s t r j o u at own (machine k) h covers = subst (λ (x : WaitState C). TakesOff p c s j x ⊎ Covers id q c p list x) (sym (h.2 ∙ same))
+      (machine_goes means z phase count s r id q c p list ne some j o u at own k (subst (λ (x : Option ℕ). Permits z k x u.target u.place) own h.0) covers)
     where
       same : after z s j u k ≡ moved z s j u o k
       same = ap (λ (x : ℕ). moved z s j u x k) (ap number_of own)
@@ -332,22 +333,22 @@ module _ {C X : Type 0} (does : X → ClientOp) (may : PartyView C → X → Typ
       (covers_set id q c p list s s.words j u (took_in both u h.1.0) at refl refl refl refl covers)))
 
   -- each event of the run takes p off, or leaves the broadcaster before its first free, or its sentinel behind p
-  run_goes : (es : List (ℕ × Deed X)) (s t : WaitState C) (run : Runs does may then first spent both z s es t) → Rule holds z phase count s → Covers id q c p list s → Somewhere does may then first spent both z (TakesOff p c) s es t run ⊎ Covers id q c p list t
+  run_goes : (es : List (ℕ × Deed X)) (s t : WaitState C) (run : Runs does may then first spent both means z s es t) → Rule means z phase count s → Covers id q c p list s → Somewhere does may then first spent both means z (TakesOff p c) s es t run ⊎ Covers id q c p list t
   run_goes [] s t run r covers = inr (subst (Covers id q c p list) (sym run) covers)
   run_goes (e ∷ es) s t run r covers = ⊎_elim (λ off. inl (inl off)) (λ next. ⊎_elim (λ later. inl (inr later)) (λ end. inr end) (run_goes es run.0 t run.2 (keeps s run.0 e r run.1) next))
       (deed_goes s run.0 r e.0 run.1.1 run.1.0 run.1.2 run.1.3 e.1 run.1.4 covers)
 
-module _ {C X : Type 0} (does : X → ClientOp) (may : PartyView C → X → Type 0) (then : PartyView C → X → ℕ → C) (first spent : C) (both : C → C → C) (holds : List ℕ → List (PartyView C) → List ℕ → Type 0) (z : Size) (phase count : ℕ)
-    (keeps : (s t : WaitState C) (e : ℕ × Deed X) → Rule holds z phase count s → Steps does may then first spent both z s e t → Rule holds z phase count t)
-    (es : List (ℕ × Deed X)) (s t : WaitState C) (run : Runs does may then first spent both z s es t) (r : Rule holds z phase count s) (id q c : ℕ) (list : List ℕ) (a : AtFirstTake id q c list s) where
-  pub sentinel_behind : (p : ℕ) → 1 ≤ times p list → Somewhere does may then first spent both z (TakesOff p c) s es t run ⊎ (AtFirstTake id q c list t ⊎ StandsBehind q p c t)
+module _ {C X : Type 0} (does : X → ClientOp) (may : PartyView C → X → Type 0) (then : PartyView C → X → ℕ → C) (first spent : C) (both : C → C → C) (means : Meanings C) (z : Size) (phase count : ℕ)
+    (keeps : (s t : WaitState C) (e : ℕ × Deed X) → Rule means z phase count s → Steps does may then first spent both means z s e t → Rule means z phase count t)
+    (es : List (ℕ × Deed X)) (s t : WaitState C) (run : Runs does may then first spent both means z s es t) (r : Rule means z phase count s) (id q c : ℕ) (list : List ℕ) (a : AtFirstTake id q c list s) where
+  pub sentinel_behind : (p : ℕ) → 1 ≤ times p list → Somewhere does may then first spent both means z (TakesOff p c) s es t run ⊎ (AtFirstTake id q c list t ⊎ StandsBehind q p c t)
   sentinel_behind p some = ⊎_elim (λ off. inl off) (λ covers. inr (⊎_elim (λ still. inl still) (λ later. inr later.behind) covers))
-      (run_goes does may then first spent both holds z phase count keeps id q c p list (first_apart holds z phase count s r id q c p list a some) some es s t run r (inl a))
+      (run_goes does may then first spent both means z phase count keeps id q c p list (first_apart means z phase count s r id q c p list a some) some es s t run r (inl a))
 
   -- once the seat is in no call all were taken off
-  pub all_taken_off : (w : WaitView C) → get_elem? t.views id ≡ maybe.some w → w.place ≡ [] → (p : ℕ) → 1 ≤ times p list → Somewhere does may then first spent both z (TakesOff p c) s es t run
+  pub all_taken_off : (w : WaitView C) → get_elem? t.views id ≡ maybe.some w → w.place ≡ [] → (p : ℕ) → 1 ≤ times p list → Somewhere does may then first spent both means z (TakesOff p c) s es t run
   all_taken_off w there idle p some = ⊎_elim (λ off. off) (λ covers. absurd (over covers))
-      (run_goes does may then first spent both holds z phase count keeps id q c p list (first_apart holds z phase count s r id q c p list a some) some es s t run r (inl a))
+      (run_goes does may then first spent both means z phase count keeps id q c p list (first_apart means z phase count s r id q c p list a some) some es s t run r (inl a))
     where
       over : Covers id q c p list t → ⊥
       over (inl b) = let is : b.view ≡ w = maybe.some-injective b.view w (sym b.at ∙ there) in let e = sym b.place ∙ (ap (λ (x : WaitView C). x.place) is ∙ idle) in cc

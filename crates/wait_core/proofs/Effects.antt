@@ -6,6 +6,7 @@ use Rattle.wait_core.specs.declared.step.Until.TheVariants.{Latch, LatchOrShutdo
 use Rattle.wait_core.specs.declared.step.Call.{Call}
 use Rattle.wait_core.specs.declared.step.Call.TheVariants as call
 use Rattle.wait_core.specs.declared.step.Spot.{Spot}
+use Rattle.wait_core.specs.declared.step.Spot.TheVariants.{Cv, Bar}
 use Rattle.wait_core.specs.declared.step.WaitStep.{WaitStep}
 use Rattle.wait_core.specs.declared.step.WaitStep.TheVariants.{Sload, Sset, Reset, Mstore, Mload, Byte, Look, Drain, Shload, Shstore, Take, Spin, Free}
 use Rattle.wait_core.specs.declared.view.Frame.{Frame}
@@ -14,9 +15,10 @@ use Rattle.wait_core.specs.declared.view.Size.{Size}
 use Rattle.wait_core.specs.declared.view.Job.{Job}
 use Rattle.wait_core.specs.declared.view.Job.TheVariants as job
 use Rattle.wait_core.specs.declared.view.Kept.{Kept}
+use Rattle.wait_core.specs.Words.{most_conditions, slot_of, slots_in}
 use Rattle.wait_core.specs.Jobs.{resumed, goes_on}
 use Rattle.wait_core.specs.Lists.{is_listed}
-use Rattle.wait_core.specs.Machine.{Place, top, outer, bit, begun, watching, reloaded, marked, woken, looked, drained, reset, entered, taken, spun, freed, place_then, MayBegin, MayReload, MayMark, MayWake, MayLook, MayDrain, MayReset, MayTake, MaySpin, MayFree, SetsLatchOf, WaitsForLatch, spot_for, takes_first, Permits}
+use Rattle.wait_core.specs.Machine.{Place, top, outer, bit, begun, watching, reloaded, marked, woken, looked, drained, reset, entered, taken, spun, freed, place_then, MayBegin, MayReload, MayMark, MayWake, MayLook, MayDrain, MayReset, MayTake, MaySpin, MayFree, SetsLatchOf, WaitsForLatch, takes_first, IsSpot, Permits}
 use Rattle.wait_core.specs.Places.{may_sleep, past_latch, past_shutdown, tells, stops}
 use Rattle.wait_core.specs.Fits.{BehindSet, BehindWait, BehindCancel, JobFits, Fits}
 
@@ -140,17 +142,24 @@ module _ (cvs : ℕ) (t : Option ℕ) where
   freed_end (job.Broadcast c) own (q ∷ rest) p h = tt
   freed_end (job.Rebroadcast c) own [] p h = end_plain p h.2
   freed_end (job.Rebroadcast c) own (q ∷ rest) p h = either_plain (eqb q own) (resumed p) (Rousing c q (is_listed own rest) ∷ p) (end_plain p h.2) tt
+  freed_end (job.Attach b) own list p h = end_plain p h
+  freed_end (job.Detach b) own list p h = end_plain p h
+
+-- a spin word of the table has a slot of the table's
+pub spot_inside : (z : Size) (x : Spot) → z.cvs ≤ most_conditions → IsSpot z x → slot_of x < slots_in z
+spot_inside z (Cv c) most ok = omega arith
+spot_inside z (Bar b) most ok = omega arith
 
 -- a call that takes a spin word first has no other program around it
-sets_no_spot : (t : Option ℕ) (x : Spot) (q : ℕ) (c : Call) → spot_for (takes_first t c) ≡ Some x → SetsLatchOf q c → ⊥
+sets_no_spot : (t : Option ℕ) (x : Spot) (q : ℕ) (c : Call) → takes_first t c ≡ Some x → SetsLatchOf q c → ⊥
 sets_no_spot t x q (call.Set r) is ok = cc
 sets_no_spot t x q c is ok = ok
 
-waits_no_spot : (t : Option ℕ) (x : Spot) (c : Call) → spot_for (takes_first t c) ≡ Some x → WaitsForLatch c → ⊥
+waits_no_spot : (t : Option ℕ) (x : Spot) (c : Call) → takes_first t c ≡ Some x → WaitsForLatch c → ⊥
 waits_no_spot t x (call.Wait w) is ok = cc
 waits_no_spot t x c is ok = ok
 
-pub takes_idle : (t : Option ℕ) (x : Spot) (c : Call) (p : Place) → spot_for (takes_first t c) ≡ Some x → MayBegin c p → p ≡ []
+pub takes_idle : (t : Option ℕ) (x : Spot) (c : Call) (p : Place) → takes_first t c ≡ Some x → MayBegin c p → p ≡ []
 takes_idle t x c [] is ok = refl
 takes_idle t x c (Signalling d q ∷ p) is ok = absurd (sets_no_spot t x q c is ok)
 takes_idle t x c (Rousing d q more ∷ p) is ok = absurd (sets_no_spot t x q c is ok)
@@ -306,6 +315,10 @@ module _ (z : Size) (t : Option ℕ) where
       by_target (Some s) (call.Sleep c) = taken_plain clear found (job.Cancel s) (Preparing c ∷ [])
       by_target (Some s) (call.Broadcast c) = taken_plain clear found (job.Cancel s) (Broadcasting c ∷ [])
       by_target (Some s) (call.Signal c) = taken_plain clear found (job.Signal c) []
+      by_target None (call.Attach b) = taken_plain clear found (job.Attach b) []
+      by_target (Some s) (call.Attach b) = taken_plain clear found (job.Attach b) []
+      by_target None (call.Detach b) = taken_plain clear found (job.Detach b) []
+      by_target (Some s) (call.Detach b) = taken_plain clear found (job.Detach b) []
       by_target s c = tt
 
   taken_effect : (x : Spot) (n : ℕ) (clear : Bool) (found : Kept) (p : Place) → MayTake x (top p) → Effect z (Take x None) n (top p) (top (taken clear found p))

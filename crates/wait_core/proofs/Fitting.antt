@@ -139,6 +139,8 @@ entered_fits cvs (Some s) clear found (call.Prepare c) p inside below is = job_t
 entered_fits cvs (Some s) clear found (call.Sleep c) p inside below is = job_taken cvs (Some s) clear found (job.Cancel s) (Preparing c ∷ p) (inside s refl, refl, (below, is))
 entered_fits cvs (Some s) clear found (call.Broadcast c) p inside below is = job_taken cvs (Some s) clear found (job.Cancel s) (Broadcasting c ∷ p) (inside s refl, refl, (below, is))
 entered_fits cvs t clear found (call.Signal c) p inside below is = job_taken cvs t clear found (job.Signal c) p (below, is)
+entered_fits cvs t clear found (call.Attach b) p inside below is = job_taken cvs t clear found (job.Attach b) p is
+entered_fits cvs t clear found (call.Detach b) p inside below is = job_taken cvs t clear found (job.Detach b) p is
 entered_fits cvs t clear found c p inside below is = subst (λ (q : Place). Fits cvs t (taken clear found q)) (sym is) tt
 
 -- THE FREE OF A SPIN WORD. After the leaving of a list there is no target
@@ -158,6 +160,8 @@ job_freed cvs t (job.Broadcast c) own [] p h = end_fits cvs t p h.2
 job_freed cvs t (job.Broadcast c) own (q ∷ rest) p h = (h.1, h.0, h.2)
 job_freed cvs t (job.Rebroadcast c) own [] p h = end_fits cvs t p h.2
 job_freed cvs t (job.Rebroadcast c) own (q ∷ rest) p h = either cvs t (eqb q own) (resumed p) (Rousing c q (is_listed own rest) ∷ p) (end_fits cvs t p h.2) (h.1, h.0, h.2)
+job_freed cvs t (job.Attach b) own list p h = end_fits cvs t p h
+job_freed cvs t (job.Detach b) own list p h = end_fits cvs t p h
 
 freed_fits : (cvs : ℕ) (t : Option ℕ) (x : Spot) (after : Option ℕ) (own : ℕ) (p : Place) → MayFree x after t (top p) → Fits cvs t p → Fits cvs after (freed own p)
 freed_fits cvs t x after own (Holding j list found ∷ p) ok fit = subst (λ (s : Option ℕ). Fits cvs s (goes_on j own list p)) (sym ok.1) (job_freed cvs t j own list p fit)

@@ -17,15 +17,25 @@ use Rattle.wait_core.specs.declared.view.Size.{Size}
 use Rattle.wait_core.specs.Words.{slot_of}
 use Rattle.wait_core.specs.Lists.{is_listed}
 use Rattle.wait_core.specs.Jobs.{spot_of, resumed, goes_on}
-use Rattle.wait_core.specs.Machine.{Place, top, outer, begun, reloaded, marked, woken, looked, drained, reset, entered, taken, spun, freed, place_then, MayBegin, MayReload, MayMark, MayWake, MayLook, MayDrain, MayReset, MayTake, MaySpin, MayFree, takes_first, spot_for, Permits}
+use Rattle.wait_core.specs.Machine.{Place, top, outer, begun, reloaded, marked, woken, looked, drained, reset, entered, taken, spun, freed, place_then, MayBegin, MayReload, MayMark, MayWake, MayLook, MayDrain, MayReset, MayTake, MaySpin, MayFree, takes_first, Permits}
 use Rattle.wait_core.specs.Fits.{BehindSet, BehindWait, BehindCancel, JobFits, Fits}
 use Rattle.wait_core.specs.Stances.{hand_at, slot_in}
+use Rattle.wait_core.specs.Barriers.{asked_by, asked, asks_at, asks_then}
 use Rattle.wait_core.specs.Told.{slot_then}
 use Rattle.wait_core.proofs.Effects.{at_top, takes_idle}
 
--- nothing is in hand there
+-- the slot that is in hand, and the job on a barrier
+abbrev Grasp : Type 0
+Grasp = Option ℕ × Option Job
+
+abbrev grasp : Place → Grasp
+grasp p = (slot_in (hand_at p), asks_at p)
+
+abbrev nothing : Grasp
+nothing = (None, None)
+
 abbrev IsFree : Place → Type 0
-IsFree p = slot_in (hand_at p) ≡ None
+IsFree p = grasp p ≡ nothing
 
 either_free : (b : Bool) (p q : Place) → IsFree p → IsFree q → IsFree (cond b p q)
 either_free true p q x y = x
@@ -112,9 +122,10 @@ module _ (cvs : ℕ) (t : Option ℕ) where
   reset_free (Resetting c ∷ p) ok = (refl, refl)
   reset_free p ok = absurd ok
 
-  spun_free : (x : Spot) (clear : Bool) (p : Place) → MaySpin x (top p) → FreeBoth p (spun clear p)
-  spun_free x clear (Spinning j ∷ p) ok = (refl, either_free clear (Taking j ∷ p) (Spinning j ∷ p) refl refl)
-  spun_free x clear p ok = absurd ok
+  spun_same : (x : Spot) (clear : Bool) (p : Place) → MaySpin x (top p) → grasp (spun clear p) ≡ grasp p
+  spun_same x true (Spinning j ∷ p) ok = refl
+  spun_same x false (Spinning j ∷ p) ok = refl
+  spun_same x clear p ok = absurd ok
 
   goes_free : (j : Job) (own : ℕ) (list : List ℕ) (p : Place) → JobFits cvs t j p → IsFree (goes_on j own list p)
   goes_free (job.Cancel c) own list p h = cancel_free p h.2
@@ -126,21 +137,23 @@ module _ (cvs : ℕ) (t : Option ℕ) where
   goes_free (job.Broadcast c) own (q ∷ rest) p h = refl
   goes_free (job.Rebroadcast c) own [] p h = end_free p h.2
   goes_free (job.Rebroadcast c) own (q ∷ rest) p h = either_free (eqb q own) (resumed p) (Rousing c q (is_listed own rest) ∷ p) (end_free p h.2) refl
+  goes_free (job.Attach b) own list p h = end_free p h
+  goes_free (job.Detach b) own list p h = end_free p h
 
   freed_free : (x : Spot) (after : Option ℕ) (own : ℕ) (p : Place) → MayFree x after t (top p) → Fits cvs t p → IsFree (freed own p)
   freed_free x after own (Holding j list found ∷ p) ok fit = goes_free j own list p fit
   freed_free x after own p ok fit = absurd ok
 
 -- a spin word is taken for the job: it is that of the step
-job_hand : (z : Size) (x : Spot) (clear : Bool) (found : Kept) (j : Job) (p : Place) → spot_of j ≡ x → slot_in (hand_at (taken clear found (Taking j ∷ p))) ≡ cond clear (Some (slot_of z x)) None
-job_hand z x true found j p is = ap (λ (y : Spot). Some (slot_of z y)) is
+job_hand : (z : Size) (x : Spot) (clear : Bool) (found : Kept) (j : Job) (p : Place) → spot_of j ≡ x → grasp (taken clear found (Taking j ∷ p)) ≡ (cond clear (Some (slot_of x)) None, asked j)
+job_hand z x true found j p is = λ i. (Some (slot_of (is i)), asked j)
 job_hand z x false found j p is = refl
 
-taken_hand : (z : Size) (x : Spot) (clear : Bool) (found : Kept) (p : Place) → MayTake x (top p) → slot_in (hand_at (taken clear found p)) ≡ cond clear (Some (slot_of z x)) (slot_in (hand_at p))
+taken_hand : (z : Size) (x : Spot) (clear : Bool) (found : Kept) (p : Place) → MayTake x (top p) → grasp (taken clear found p) ≡ (cond clear (Some (slot_of x)) (slot_in (hand_at p)), asks_at p)
 taken_hand z x clear found (Taking j ∷ p) ok = job_hand z x clear found j p ok
 taken_hand z x clear found p ok = absurd ok
 
-entered_hand : (z : Size) (x : Spot) (clear : Bool) (found : Kept) (t : Option ℕ) (c : Call) → spot_for (takes_first t c) ≡ Some x → slot_in (hand_at (taken clear found (entered t c []))) ≡ cond clear (Some (slot_of z x)) None
+entered_hand : (z : Size) (x : Spot) (clear : Bool) (found : Kept) (t : Option ℕ) (c : Call) → takes_first t c ≡ Some x → grasp (taken clear found (entered t c [])) ≡ (cond clear (Some (slot_of x)) None, asked_by c)
 entered_hand z x clear found None (call.Prepare c) is = job_hand z x clear found (job.Prepare c) [] (cc)
 entered_hand z x clear found None (call.Broadcast c) is = job_hand z x clear found (job.Broadcast c) [] (cc)
 entered_hand z x clear found None (call.Signal c) is = job_hand z x clear found (job.Signal c) [] (cc)
@@ -151,48 +164,62 @@ entered_hand z x clear found (Some s) (call.Broadcast c) is = job_hand z x clear
 entered_hand z x clear found (Some s) (call.Signal c) is = job_hand z x clear found (job.Signal c) [] (cc)
 entered_hand z x clear found (Some s) (call.Sleep c) is = job_hand z x clear found (job.Cancel s) (Preparing c ∷ []) (other_target (eqb s c) is)
   where
-    other_target : (same : Bool) → spot_for (cond same None (Some s)) ≡ Some x → Cv s ≡ x
+    other_target : (same : Bool) → cond same None (Some (Cv s)) ≡ Some x → Cv s ≡ x
     other_target true e = absurd (cc)
     other_target false e = cc
+entered_hand z x clear found None (call.Attach b) is = job_hand z x clear found (job.Attach b) [] (cc)
+entered_hand z x clear found (Some s) (call.Attach b) is = job_hand z x clear found (job.Attach b) [] (cc)
+entered_hand z x clear found None (call.Detach b) is = job_hand z x clear found (job.Detach b) [] (cc)
+entered_hand z x clear found (Some s) (call.Detach b) is = job_hand z x clear found (job.Detach b) [] (cc)
 entered_hand z x clear found t c is = absurd (cc)
 
-unchanged : (p q : Place) → IsFree p → IsFree q → slot_in (hand_at q) ≡ slot_in (hand_at p)
+unchanged : (p q : Place) → IsFree p → IsFree q → grasp q ≡ grasp p
 unchanged p q a b = b ∙ sym a
 
-pub hand_follows : (z : Size) (t : Option ℕ) (k : WaitStep) (own : Option ℕ) (o n : ℕ) (found : Kept) (p : Place) → Permits z k own t p → Fits z.cvs t p → slot_in (hand_at (place_then z k n found record { own = o; target = t; place = p })) ≡ slot_then z k n (slot_in (hand_at p))
-hand_follows z t (Sload q (Some c)) own o n found p ok fit = unchanged p _ (begin_free c p ok.1) (begun_free z.cvs t (eqb n 0) c p ok.1 fit)
-hand_follows z t (Sload q None) own o n found p ok fit = let h = reloaded_free z.cvs t (eqb n 0) p ok.1 fit in unchanged p _ h.0 h.1
-hand_follows z t (Sset q) own o n found p ok fit = unchanged p (Telling q ∷ outer p) (top_free p (Setting q) (λ x. refl) ok.1) refl
-hand_follows z t (Reset (Some c)) own o n found p ok fit = refl
-hand_follows z t (Reset None) own o n found p ok fit = let h = reset_free z.cvs t p ok in unchanged p _ h.0 h.1
-hand_follows z t (Mstore may) own o n found p ok fit = let h = marked_free z.cvs t may p ok fit in unchanged p _ h.0 h.1
-hand_follows z t (Mload q) own o n found p ok fit =
+-- what is in hand after a step, and the job on a barrier
+abbrev grasp_then : WaitStep → ℕ → Place → Grasp
+grasp_then k n p = (slot_then k n (slot_in (hand_at p)), asks_then k p)
+
+follows : (z : Size) (t : Option ℕ) (k : WaitStep) (own : Option ℕ) (o n : ℕ) (found : Kept) (p : Place) → Permits z k own t p → Fits z.cvs t p → grasp (place_then z k n found record { own = o; target = t; place = p }) ≡ grasp_then k n p
+follows z t (Sload q (Some c)) own o n found p ok fit = unchanged p _ (begin_free c p ok.1) (begun_free z.cvs t (eqb n 0) c p ok.1 fit)
+follows z t (Sload q None) own o n found p ok fit = let h = reloaded_free z.cvs t (eqb n 0) p ok.1 fit in unchanged p _ h.0 h.1
+follows z t (Sset q) own o n found p ok fit = unchanged p (Telling q ∷ outer p) (top_free p (Setting q) (λ x. refl) ok.1) refl
+follows z t (Reset (Some c)) own o n found p ok fit = refl
+follows z t (Reset None) own o n found p ok fit = let h = reset_free z.cvs t p ok in unchanged p _ h.0 h.1
+follows z t (Mstore may) own o n found p ok fit = let h = marked_free z.cvs t may p ok fit in unchanged p _ h.0 h.1
+follows z t (Mload q) own o n found p ok fit =
     unchanged p _ (top_free p (Telling q) (λ x. refl) ok.1) (either_free (eqb n 0) (resumed (outer p)) (Waking q ∷ outer p) (set_free z.cvs t q (outer p) (subst (Fits z.cvs t) (at_top p (Telling q) ok.1) fit)) refl)
-hand_follows z t (Byte q) own o n found p ok fit = let h = woken_free z.cvs t z q p ok.1 fit in unchanged p _ h.0 h.1
-hand_follows z t Look own o n found p ok fit = let h = looked_free z.cvs t (eqb n 0) p ok in unchanged p _ h.0 h.1
-hand_follows z t Drain own o n found p ok fit = let h = drained_free z.cvs t p ok in unchanged p _ h.0 h.1
-hand_follows z t (Shload (Some c)) own o n found p ok fit = refl
-hand_follows z t (Shload None) own o n found p ok fit = unchanged p _ (top_free p CheckingShutdown (λ x. refl) ok) (either_free (eqb n 0) (Looking LatchOrShutdown ∷ outer p) (LeavingShutdown ∷ outer p) refl refl)
-hand_follows z t (Shstore b) own o n found p ok fit = unchanged p (Stopping 0 ∷ p) (begin_free call.Shut p ok.1) refl
-hand_follows z t (Take x (Some c)) own o n found p ok fit =
-    subst (λ (q : Place). slot_in (hand_at (taken (eqb n 0) found (entered t c q))) ≡ cond (eqb n 0) (Some (slot_of z x)) (slot_in (hand_at q))) (sym (takes_idle t x c p ok.1 ok.3)) (entered_hand z x (eqb n 0) found t c ok.1)
-hand_follows z t (Take x None) own o n found p ok fit = taken_hand z x (eqb n 0) found p ok.1
-hand_follows z t (Spin x) own o n found p ok fit = let h = spun_free z.cvs t x (eqb n 0) p ok.1 in unchanged p _ h.0 h.1
-hand_follows z t (Free x after) own o n found p ok fit = freed_free z.cvs t x after o p ok.1 fit
+follows z t (Byte q) own o n found p ok fit = let h = woken_free z.cvs t z q p ok.1 fit in unchanged p _ h.0 h.1
+follows z t Look own o n found p ok fit = let h = looked_free z.cvs t (eqb n 0) p ok in unchanged p _ h.0 h.1
+follows z t Drain own o n found p ok fit = let h = drained_free z.cvs t p ok in unchanged p _ h.0 h.1
+follows z t (Shload (Some c)) own o n found p ok fit = refl
+follows z t (Shload None) own o n found p ok fit = unchanged p _ (top_free p CheckingShutdown (λ x. refl) ok) (either_free (eqb n 0) (Looking LatchOrShutdown ∷ outer p) (LeavingShutdown ∷ outer p) refl refl)
+follows z t (Shstore b) own o n found p ok fit = unchanged p (Stopping 0 ∷ p) (begin_free call.Shut p ok.1) refl
+follows z t (Take x (Some c)) own o n found p ok fit =
+    subst (λ (q : Place). grasp (taken (eqb n 0) found (entered t c q)) ≡ (cond (eqb n 0) (Some (slot_of x)) (slot_in (hand_at q)), asked_by c)) (sym (takes_idle t x c p ok.1 ok.3)) (entered_hand z x (eqb n 0) found t c ok.1)
+follows z t (Take x None) own o n found p ok fit = taken_hand z x (eqb n 0) found p ok.1
+follows z t (Spin x) own o n found p ok fit = spun_same z.cvs t x (eqb n 0) p ok.1
+follows z t (Free x after) own o n found p ok fit = freed_free z.cvs t x after o p ok.1 fit
+
+pub hand_follows : (z : Size) (t : Option ℕ) (k : WaitStep) (own : Option ℕ) (o n : ℕ) (found : Kept) (p : Place) → Permits z k own t p → Fits z.cvs t p → slot_in (hand_at (place_then z k n found record { own = o; target = t; place = p })) ≡ slot_then k n (slot_in (hand_at p))
+hand_follows z t k own o n found p ok fit = ap (λ (g : Grasp). g.0) (follows z t k own o n found p ok fit)
+
+pub asks_follows : (z : Size) (t : Option ℕ) (k : WaitStep) (own : Option ℕ) (o n : ℕ) (found : Kept) (p : Place) → Permits z k own t p → Fits z.cvs t p → asks_at (place_then z k n found record { own = o; target = t; place = p }) ≡ asks_then k p
+asks_follows z t k own o n found p ok fit = ap (λ (g : Grasp). g.1) (follows z t k own o n found p ok fit)
 
 -- whoever takes a spin word has nothing in hand
-pub taking_free : (z : Size) (t : Option ℕ) (x : Spot) (b : Option Call) (own : Option ℕ) (p : Place) → Permits z (Take x b) own t p → IsFree p
-taking_free z t x (Some c) own p ok = begin_free c p ok.3
+pub taking_free : (z : Size) (t : Option ℕ) (x : Spot) (b : Option Call) (own : Option ℕ) (p : Place) → Permits z (Take x b) own t p → slot_in (hand_at p) ≡ None
+taking_free z t x (Some c) own p ok = ap (λ (g : Grasp). g.0) (begin_free c p ok.3)
 taking_free z t x None own p ok = by_top p ok.1
   where
-    by_top : (p : Place) → MayTake x (top p) → IsFree p
+    by_top : (p : Place) → MayTake x (top p) → slot_in (hand_at p) ≡ None
     by_top (Taking j ∷ p) ok = refl
     by_top p ok = absurd ok
 
 -- whoever frees one has what it guards
-pub freeing_hand : (z : Size) (t : Option ℕ) (x : Spot) (after : Option ℕ) (own : Option ℕ) (p : Place) → Permits z (Free x after) own t p → slot_in (hand_at p) ≡ Some (slot_of z x)
+pub freeing_hand : (z : Size) (t : Option ℕ) (x : Spot) (after : Option ℕ) (own : Option ℕ) (p : Place) → Permits z (Free x after) own t p → slot_in (hand_at p) ≡ Some (slot_of x)
 freeing_hand z t x after own p ok = by_top p ok.1
   where
-    by_top : (p : Place) → MayFree x after t (top p) → slot_in (hand_at p) ≡ Some (slot_of z x)
-    by_top (Holding j list found ∷ p) ok = ap (λ (y : Spot). Some (slot_of z y)) ok.0
+    by_top : (p : Place) → MayFree x after t (top p) → slot_in (hand_at p) ≡ Some (slot_of x)
+    by_top (Holding j list found ∷ p) ok = ap (λ (y : Spot). Some (slot_of y)) ok.0
     by_top p ok = absurd ok

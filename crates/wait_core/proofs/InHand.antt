@@ -16,17 +16,18 @@ use Rattle.wait_core.specs.declared.step.WaitStep.TheVariants.{Take, Free}
 use Rattle.wait_core.specs.declared.view.Kept.{Kept}
 use Rattle.wait_core.specs.declared.view.Size.{Size}
 use Rattle.wait_core.specs.declared.view.WaitView.{WaitView}
-use Rattle.wait_core.specs.Words.{slot_of, spin_at}
+use Rattle.wait_core.specs.Words.{most_conditions, slot_of, spin_at, slots_in}
 use Rattle.wait_core.specs.Lists.{is_listed}
 use Rattle.wait_core.specs.Machine.{Place, home_of, home_in, slot_number, word_of, act_of, Permits}
 use Rattle.wait_core.specs.Seating.{numbers_of}
 use Rattle.wait_core.specs.Stances.{Stance, Homes, stance_of, both_are, is_just, belongs_to}
 use Rattle.wait_core.specs.ListsStand.{ListsStand}
 use Rattle.wait_core.specs.Told.{TellsList, Tells}
+use Rattle.wait_core.proofs.Effects.{spot_inside}
 use Rattle.wait_core.proofs.Lists.{listed_there, not_listed, fits_below, room_below, all_below}
 use Rattle.wait_core.proofs.Owning.{both_else, counts_most, own_counts, just_else, alone_stances}
 
-module _ {C : Type 0} (z : Size) (next : ℕ) (words : List ℕ) (homes : Homes) (views : List (WaitView C)) (few : next ≤ z.procs) (roster : Roster z.procs next (map numbers_of views)) (stand : ListsStand z words homes (map stance_of views)) where
+module _ {C : Type 0} (z : Size) (most : z.cvs ≤ most_conditions) (next : ℕ) (words : List ℕ) (homes : Homes) (views : List (WaitView C)) (few : next ≤ z.procs) (roster : Roster z.procs next (map numbers_of views)) (stand : ListsStand z words homes (map stance_of views)) where
   abbrev seats : List Stance
   seats = map stance_of views
 
@@ -38,7 +39,7 @@ module _ {C : Type 0} (z : Size) (next : ℕ) (words : List ℕ) (homes : Homes)
       by_own i u at None is = ap (λ (o : Option ℕ). both_are q x o (stance_of u).belongs) is
       by_own i u at (Some p) is = let below = own_inside z.procs next (map numbers_of views) roster i p (numbers_of u) (at_map numbers_of views i u at) is in both_else q p x u.own (stance_of u).belongs is (λ e. omega arith)
 
-  module _ (x : ℕ) (inside : x < z.cvs + z.bars) (k : Kept) (home : get_elem? homes x ≡ maybe.some (maybe.some k)) where
+  module _ (x : ℕ) (inside : x < slots_in z) (k : Kept) (home : get_elem? homes x ≡ maybe.some (maybe.some k)) where
     on_list : (q : ℕ) → times q k.list.items ≤ total (belongs_to q x) seats
     on_list q = let all = stand.listed q x inside in let here = ap (λ (h : maybe.Option (maybe.Option Kept)). times q (home_of h).list.items) home in omega arith
 
@@ -62,23 +63,23 @@ module _ {C : Type 0} (z : Size) (next : ℕ) (words : List ℕ) (homes : Homes)
 
   -- a spin word is found clear
   module _ (o : ℕ) (own t : Option ℕ) (p : Place) where
-    taken_home : (x : ℕ) → x < z.cvs + z.bars → get_or words (spin_at z x) 0 ≡ 0 → get_elem? homes x ≡ maybe.some (maybe.some (home_in homes x))
+    taken_home : (x : ℕ) → x < slots_in z → get_or words (spin_at z x) 0 ≡ 0 → get_elem? homes x ≡ maybe.some (maybe.some (home_in homes x))
     taken_home x inside clear = let there = (stand.hands x inside).at_home clear in there.1 ∙ ap (λ (k : Kept). maybe.some (maybe.some k)) (sym (ap home_of there.1))
 
-    take_valid : (x : ℕ) (c : List (ℕ × Kept)) → x < z.cvs + z.bars → Valid homes c (cond (eqb (get_or words (spin_at z x) 0) 0) (takes x (home_in homes x)) keeps)
+    take_valid : (x : ℕ) (c : List (ℕ × Kept)) → x < slots_in z → Valid homes c (cond (eqb (get_or words (spin_at z x) 0) 0) (takes x (home_in homes x)) keeps)
     take_valid x c inside = by_word (eqb (get_or words (spin_at z x) 0) 0) refl
       where
         by_word : (clear : Bool) → eqb (get_or words (spin_at z x) 0) 0 ≡ clear → Valid homes c (cond clear (takes x (home_in homes x)) keeps)
         by_word true e = taken_home x inside (eqb-true _ 0 e)
         by_word false e = tt
 
-    pub act_valid : (k : WaitStep) → Permits z k own t p → (c : List (ℕ × Kept)) → Valid homes c (act_of z k (get_or words (word_of z o k) 0) (home_in homes (slot_number z k)))
-    act_valid (Take x (Some b)) ok c = take_valid (slot_of z x) c ok.0
-    act_valid (Take x None) ok c = take_valid (slot_of z x) c ok.0
+    pub act_valid : (k : WaitStep) → Permits z k own t p → (c : List (ℕ × Kept)) → Valid homes c (act_of k (get_or words (word_of z o k) 0) (home_in homes (slot_number k)))
+    act_valid (Take x (Some b)) ok c = take_valid (slot_of x) c (spot_inside z x most ok.0)
+    act_valid (Take x None) ok c = take_valid (slot_of x) c (spot_inside z x most ok.0)
     act_valid (Free x after) ok c = tt
     act_valid k ok c = tt
 
-    pub step_tells : (k : WaitStep) → Permits z k own t p → (id : ℕ) (v : Stance) → get_elem? seats id ≡ maybe.some v → v.own ≡ Some o → o < z.procs → Tells z k o v.belongs (get_or words (word_of z o k) 0) (home_in homes (slot_number z k)).list.items
-    step_tells (Take x (Some b)) ok id v at mine below = λ clear. tells_list (slot_of z x) ok.0 (home_in homes (slot_of z x)) (taken_home (slot_of z x) ok.0 clear) id v at o mine below
-    step_tells (Take x None) ok id v at mine below = λ clear. tells_list (slot_of z x) ok.0 (home_in homes (slot_of z x)) (taken_home (slot_of z x) ok.0 clear) id v at o mine below
+    pub step_tells : (k : WaitStep) → Permits z k own t p → (id : ℕ) (v : Stance) → get_elem? seats id ≡ maybe.some v → v.own ≡ Some o → o < z.procs → Tells z k o v.belongs (get_or words (word_of z o k) 0) (home_in homes (slot_number k)).list.items
+    step_tells (Take x (Some b)) ok id v at mine below = λ clear. tells_list (slot_of x) (spot_inside z x most ok.0) (home_in homes (slot_of x)) (taken_home (slot_of x) (spot_inside z x most ok.0) clear) id v at o mine below
+    step_tells (Take x None) ok id v at mine below = λ clear. tells_list (slot_of x) (spot_inside z x most ok.0) (home_in homes (slot_of x)) (taken_home (slot_of x) (spot_inside z x most ok.0) clear) id v at o mine below
     step_tells k ok id v at mine below = tt

@@ -16,9 +16,11 @@ pub mod ListsKept
 pub mod Fitting
 pub mod Hands
 pub mod InHand
+pub mod Records
+pub mod BarriersKept
+pub mod Attending
 pub mod RuleKept
 pub mod Untouched
-pub mod BarriersKept
 pub mod SeatsKept
 pub mod Openings
 pub mod Asks

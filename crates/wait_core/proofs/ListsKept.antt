@@ -15,9 +15,9 @@ use Rattle.wait_core.specs.declared.view.Size.{Size}
 use Rattle.wait_core.specs.declared.view.WaitView.{WaitView}
 use Rattle.seat_roster.specs.Roster.{Roster}
 use Rattle.seat_roster.proofs.Stretches.{unseen}
-use Rattle.wait_core.specs.Words.{slot_of, spin_at, client_base}
-use Rattle.wait_core.specs.Jobs.{condition_of}
-use Rattle.wait_core.specs.Machine.{Place, top, home_of, home_in, slot_number, word_of, becomes, act_of, carried, IsSpot, MayFree, Permits, next_with}
+use Rattle.wait_core.specs.Words.{most_conditions, slot_of, spin_at, client_base, slots_in}
+use Rattle.wait_core.specs.Jobs.{spot_of}
+use Rattle.wait_core.specs.Machine.{Place, top, home_of, home_in, slot_number, word_of, becomes, act_of, carried, MayFree, Permits, next_with}
 use Rattle.wait_core.specs.Seating.{numbers_of}
 use Rattle.wait_core.specs.Fits.{Fits}
 use Rattle.wait_core.specs.Slots.{AllAsOpened, OpeningSlots}
@@ -25,6 +25,7 @@ use Rattle.wait_core.specs.Stances.{Stance, Homes, hand_at, stance_of, home_amou
 use Rattle.wait_core.specs.ListsStand.{ListsStand}
 use Rattle.wait_core.specs.Rule.{Flags}
 use Rattle.seat_roster.specs.Roster.{times}
+use Rattle.wait_core.proofs.Effects.{spot_inside}
 use Rattle.wait_core.proofs.Turns.{IsStill, Turn, stays, idle}
 use Rattle.wait_core.proofs.Turning.{stance, no_heeds, view_turns}
 use Rattle.wait_core.proofs.Owning.{Alone, alone_stances, both_none}
@@ -44,16 +45,16 @@ module _ (z : Size) (words : List ℕ) (homes : Homes) (seats : List Stance) (st
   more : (own : Option ℕ) → ListsStand z words homes (seats ++ idle own ∷ [])
   more own = record {
     hands = hands_more z words homes seats own stand.hands;
-    listed = listed_more (z.cvs + z.bars) homes seats own stand.listed;
-    signals = signals_more z.procs (z.cvs + z.bars) words homes seats own stand.signals;
+    listed = listed_more (slots_in z) homes seats own stand.listed;
+    signals = signals_more z.procs (slots_in z) words homes seats own stand.signals;
   }
 
   -- a seat in no call and without a target is spent
   spent : (id : ℕ) (own : Option ℕ) → get_elem? seats id ≡ maybe.some (idle own) → ListsStand z words homes (set seats id (idle None))
   spent id own at = record {
     hands = hands_idle z words homes seats id own None at stand.hands;
-    listed = listed_idle (z.cvs + z.bars) homes seats id own None at stand.listed;
-    signals = signals_idle z.procs (z.cvs + z.bars) words homes seats id own None at stand.signals;
+    listed = listed_idle (slots_in z) homes seats id own None at stand.listed;
+    signals = signals_idle z.procs (slots_in z) words homes seats id own None at stand.signals;
   }
 
 -- the stance of a seat in no call and without a target
@@ -64,7 +65,7 @@ idle_stance v still free = by_place v.own v.heeds v.place v.target still free
         → stance own t h p ≡ idle own
     by_place own h p t still free = (λ i. stance own (free i) h (still i)) ∙ (λ i. record (idle own) { heeds = no_heeds h i })
 
-module _ {C : Type 0} (z : Size) (next : ℕ) (words : List ℕ) (homes : Homes) (views : List (WaitView C)) (wide : client_base z ≤ length words) (flags : Flags z words) (roster : Roster z.procs next (map numbers_of views)) (stand : ListsStand z words homes (map stance_of views)) where
+module _ {C : Type 0} (z : Size) (most : z.cvs ≤ most_conditions) (next : ℕ) (words : List ℕ) (homes : Homes) (views : List (WaitView C)) (wide : client_base z ≤ length words) (flags : Flags z words) (roster : Roster z.procs next (map numbers_of views)) (stand : ListsStand z words homes (map stance_of views)) where
   spins : SpinsAreFlags z words
   spins x below = flags (spin_at z x) (omega arith) (omega arith)
 
@@ -72,31 +73,31 @@ module _ {C : Type 0} (z : Size) (next : ℕ) (words : List ℕ) (homes : Homes)
     there : get_elem? (map stance_of views) id ≡ maybe.some (stance_of v)
     there = at_map stance_of views id v at
 
-    taken : (x : ℕ) → x < z.cvs + z.bars → get_or words (spin_at z x) 0 ≡ 0 → get_elem? homes x ≡ maybe.some (maybe.some (home_in homes x))
+    taken : (x : ℕ) → x < slots_in z → get_or words (spin_at z x) 0 ≡ 0 → get_elem? homes x ≡ maybe.some (maybe.some (home_in homes x))
     taken x inside clear = let home = (stand.hands x inside).at_home clear in home.1 ∙ ap (λ (k : Kept). maybe.some (maybe.some k)) (sym (ap home_of home.1))
 
-    freed : (x : Spot) (after : Option ℕ) (p : Place) → v.place ≡ p → IsSpot z x → MayFree x after v.target (top p) → get_elem? homes (slot_of z x) ≡ maybe.some maybe.none
-    freed x after (Holding j list found ∷ p) is inside ok = subst (λ (y : Spot). IsSpot z y → get_elem? homes (slot_of z y) ≡ maybe.some maybe.none) ok.0
-        (λ low. home_out z words homes (map stance_of views) wide spins stand.hands id (condition_of j) (stance_of v) list there low (ap hand_at is)) inside
+    freed : (x : Spot) (after : Option ℕ) (p : Place) → v.place ≡ p → slot_of x < slots_in z → MayFree x after v.target (top p) → get_elem? homes (slot_of x) ≡ maybe.some maybe.none
+    freed x after (Holding j list found ∷ p) is inside ok = subst (λ (y : Spot). slot_of y < slots_in z → get_elem? homes (slot_of y) ≡ maybe.some maybe.none) ok.0
+        (λ low. home_out z words homes (map stance_of views) wide spins stand.hands id (slot_of (spot_of j)) (stance_of v) list there low (ap hand_at is)) inside
     freed x after p is inside ok = absurd ok
 
     -- a list that is taken was at home, one that goes home was out
-    pub lists_found : (o : ℕ) (k : WaitStep) → Permits z k (Some o) v.target v.place → Finds z k (get_or words (word_of z o k) 0) (home_in homes (slot_number z k)) homes
-    lists_found o (Take x (Some b)) ok = taken (slot_of z x) ok.0
-    lists_found o (Take x None) ok = taken (slot_of z x) ok.0
-    lists_found o (Free x after) ok = freed x after v.place refl ok.0 ok.1
+    pub lists_found : (o : ℕ) (k : WaitStep) → Permits z k (Some o) v.target v.place → Finds z k (get_or words (word_of z o k) 0) (home_in homes (slot_number k)) homes
+    lists_found o (Take x (Some b)) ok = taken (slot_of x) (spot_inside z x most ok.0)
+    lists_found o (Take x None) ok = taken (slot_of x) (spot_inside z x most ok.0)
+    lists_found o (Free x after) ok = freed x after v.place refl (spot_inside z x most ok.0) ok.1
     lists_found o k ok = tt
 
     -- a step of the machine
     pub lists_step : (o : ℕ) → v.own ≡ Some o → o < z.procs → (k : WaitStep) → Permits z k (Some o) v.target v.place → Fits z.cvs v.target v.place → get_or words (word_of z o k) 0 ≤ 1
-        → let n = get_or words (word_of z o k) 0 in let found = home_in homes (slot_number z k) in
-        ListsStand z (set words (word_of z o k) (becomes k n)) (homes_after homes (carried z k o v.place) (act_of z k n found)) (map stance_of (set views id (next_with z k v n found)))
+        → let n = get_or words (word_of z o k) 0 in let found = home_in homes (slot_number k) in
+        ListsStand z (set words (word_of z o k) (becomes k n)) (homes_after homes (carried k o v.place) (act_of k n found)) (map stance_of (set views id (next_with z k v n found)))
     lists_step o own below k ok fits few =
-        let n : ℕ = get_or words (word_of z o k) 0 in let found : Kept = home_in homes (slot_number z k) in let w : WaitView C = next_with z k v n found in
-        let after : Homes = homes_after homes (carried z k o v.place) (act_of z k n found) in
+        let n : ℕ = get_or words (word_of z o k) 0 in let found : Kept = home_in homes (slot_number k) in let w : WaitView C = next_with z k v n found in
+        let after : Homes = homes_after homes (carried k o v.place) (act_of k n found) in
         subst (ListsStand z (set words (word_of z o k) (becomes k n)) after) (sym (map-set stance_of views id w))
         (turned z words homes (map stance_of views) stand wide spins (alone_stances z.procs next views roster) id (stance_of v) there after (word_of z o k) (becomes k n) (stance_of w)
-        (view_turns z words homes o below v k (λ x inside none. (stand.hands x inside).at_home none) own ok fits few))
+        (view_turns z most words homes o below v k (λ x inside none. (stand.hands x inside).at_home none) own ok fits few))
 
     -- the word of a client, or the next number, changes
     pub lists_apart : (i x : ℕ) (w : WaitView C) → IsStill z words i x → stance_of w ≡ stance_of v → ListsStand z (set words i x) homes (map stance_of (set views id w))

@@ -47,6 +47,6 @@ module _ (z : Size) (words : List ℕ) (seats : List Standing) (alone : (p : ℕ
   may_kept Drain e = same (byte_at o) 0 (λ p below is. omega arith) e.may
   may_kept (Shload b) e = unread (shut_at z) e.may
   may_kept (Shstore b) e = same (shut_at z) 1 (λ p below is. omega arith) e.may
-  may_kept (Take x b) e = same (spin_at z (slot_of z x)) 1 (λ p below is. omega arith) e.may
-  may_kept (Spin x) e = unread (spin_at z (slot_of z x)) e.may
-  may_kept (Free x after) e = same (spin_at z (slot_of z x)) 0 (λ p below is. omega arith) e.may
+  may_kept (Take x b) e = same (spin_at z (slot_of x)) 1 (λ p below is. omega arith) e.may
+  may_kept (Spin x) e = unread (spin_at z (slot_of x)) e.may
+  may_kept (Free x after) e = same (spin_at z (slot_of x)) 0 (λ p below is. omega arith) e.may

@@ -15,22 +15,21 @@ use Rattle.wait_core.specs.declared.view.Kept.{Kept}
 use Rattle.wait_core.specs.declared.view.PartyView.{PartyView}
 use Rattle.wait_core.specs.declared.view.Size.{Size}
 use Rattle.wait_core.specs.declared.view.WaitView.{WaitView}
+use Rattle.wait_core.specs.Meanings.{Meanings}
 use Rattle.seat_roster.specs.Totals.{total}
 use Rattle.seat_roster.specs.Roster.{Numbers, Roster, times_in, stands}
-use Rattle.wait_core.specs.Words.{byte_at, slot_of, client_base, phases}
+use Rattle.wait_core.specs.Words.{most_conditions, byte_at, slot_of, client_base}
 use Rattle.wait_core.specs.Machine.{WaitState, Place, top, left_at, list_of, made_with, place_then, number_of, word_of, becomes, home_in, slot_number, act_of, carried, next_with, Permits, Allowed, after}
 use Rattle.wait_core.specs.Seating.{Standing, numbers_of, standing_of, doings_of, party_of}
 use Rattle.wait_core.specs.Fits.{Fits, IsTarget, PlacesFit}
-use Rattle.wait_core.specs.LeftAreFree.{LeftAreFree}
-use Rattle.wait_core.specs.Parties.{Barriers}
-use Rattle.wait_core.specs.Barriers.{attendance_of, IsHere, IdleAreHere}
+use Rattle.wait_core.specs.Barriers.{StepSuits}
 use Rattle.wait_core.specs.WordsAreMade.{WordsAreMade}
 use Rattle.wait_core.specs.Rule.{Flags, Sized, Rule}
 use Rattle.seat_roster.proofs.Totals.{total_map, total_le}
-use Rattle.seat_roster.proofs.Stretches.{unseen, each_set}
+use Rattle.seat_roster.proofs.Stretches.{unseen}
 use Rattle.seat_roster.proofs.Numbers.{most_one, own_inside}
 use Rattle.wait_core.proofs.Counts.{owns, bit_le}
-use Rattle.wait_core.proofs.Effects.{Effect, effect}
+use Rattle.wait_core.proofs.Effects.{Effect, effect, spot_inside}
 use Rattle.wait_core.proofs.Untouched.{idle}
 use Rattle.wait_core.proofs.Fitting.{fits_after, target_kept}
 use Rattle.wait_core.specs.ListsAreMade.{ListsAreMade}
@@ -40,50 +39,51 @@ use Rattle.wait_core.proofs.MaySleepIsMarked.{may_kept}
 use Rattle.wait_core.proofs.SetLatchWakes.{latch_kept}
 use Rattle.wait_core.proofs.ShutdownWakes.{shutdown_kept}
 use Rattle.wait_core.proofs.WordsAreMade.{made_step}
+use Rattle.wait_core.proofs.Attending.{Owes, attended_step}
 
 -- each step is on a word between the next number and the client's
-pub word_inside : (z : Size) (o : ℕ) (k : WaitStep) (t : Option ℕ) (p : Place) → o < z.procs → Permits z k (Some o) t p → (0 < word_of z o k) × (word_of z o k < client_base z)
-word_inside z o (Sload q (Some (call.Set r))) t p below ok = let few = ok.0.1 in (omega arith, omega arith)
-word_inside z o (Sload q (Some (call.Wait w))) t p below ok = let is : o ≡ q = cc (ok.0) in (omega arith, omega arith)
-word_inside z o (Sload q (Some call.IsSet)) t p below ok = let is : o ≡ q = cc (ok.0) in (omega arith, omega arith)
-word_inside z o (Sload q (Some (call.Sleep c))) t p below ok = let is : o ≡ q = cc (ok.0.0) in (omega arith, omega arith)
-word_inside z o (Sload q (Some c)) t p below ok = absurd ok.0
-word_inside z o (Sload q None) t p below ok = let is : o ≡ q = cc (ok.0) in (omega arith, omega arith)
-word_inside z o (Sset q) t p below ok = let few = ok.0 in (omega arith, omega arith)
-word_inside z o (Reset b) t p below ok = (omega arith, omega arith)
-word_inside z o (Mstore may) t p below ok = (omega arith, omega arith)
-word_inside z o (Mload q) t p below ok = let few = ok.0 in (omega arith, omega arith)
-word_inside z o (Byte q) t p below ok = let few = ok.0 in (omega arith, omega arith)
-word_inside z o Look t p below ok = (omega arith, omega arith)
-word_inside z o Drain t p below ok = (omega arith, omega arith)
-word_inside z o (Shload b) t p below ok = (omega arith, omega arith)
-word_inside z o (Shstore b) t p below ok = (omega arith, omega arith)
-word_inside z o (Take x (Some c)) t p below ok = let few = ok.0 in (omega arith, omega arith)
-word_inside z o (Take x None) t p below ok = let few = ok.0 in (omega arith, omega arith)
-word_inside z o (Spin x) t p below ok = let few = ok.0 in (omega arith, omega arith)
-word_inside z o (Free x after) t p below ok = let few = ok.0 in (omega arith, omega arith)
+pub word_inside : (z : Size) (o : ℕ) (k : WaitStep) → z.cvs ≤ most_conditions → (t : Option ℕ) (p : Place) → o < z.procs → Permits z k (Some o) t p → (0 < word_of z o k) × (word_of z o k < client_base z)
+word_inside z o (Sload q (Some (call.Set r))) most t p below ok = let few = ok.0.1 in (omega arith, omega arith)
+word_inside z o (Sload q (Some (call.Wait w))) most t p below ok = let is : o ≡ q = cc (ok.0) in (omega arith, omega arith)
+word_inside z o (Sload q (Some call.IsSet)) most t p below ok = let is : o ≡ q = cc (ok.0) in (omega arith, omega arith)
+word_inside z o (Sload q (Some (call.Sleep c))) most t p below ok = let is : o ≡ q = cc (ok.0.0) in (omega arith, omega arith)
+word_inside z o (Sload q (Some c)) most t p below ok = absurd ok.0
+word_inside z o (Sload q None) most t p below ok = let is : o ≡ q = cc (ok.0) in (omega arith, omega arith)
+word_inside z o (Sset q) most t p below ok = let few = ok.0 in (omega arith, omega arith)
+word_inside z o (Reset b) most t p below ok = (omega arith, omega arith)
+word_inside z o (Mstore may) most t p below ok = (omega arith, omega arith)
+word_inside z o (Mload q) most t p below ok = let few = ok.0 in (omega arith, omega arith)
+word_inside z o (Byte q) most t p below ok = let few = ok.0 in (omega arith, omega arith)
+word_inside z o Look most t p below ok = (omega arith, omega arith)
+word_inside z o Drain most t p below ok = (omega arith, omega arith)
+word_inside z o (Shload b) most t p below ok = (omega arith, omega arith)
+word_inside z o (Shstore b) most t p below ok = (omega arith, omega arith)
+word_inside z o (Take x (Some c)) most t p below ok = let few = spot_inside z x most ok.0 in (omega arith, omega arith)
+word_inside z o (Take x None) most t p below ok = let few = spot_inside z x most ok.0 in (omega arith, omega arith)
+word_inside z o (Spin x) most t p below ok = let few = spot_inside z x most ok.0 in (omega arith, omega arith)
+word_inside z o (Free x after) most t p below ok = let few = spot_inside z x most ok.0 in (omega arith, omega arith)
 
 -- each step is on a word of a table that has the words of the backend
-pub word_below : (z : Size) (o count words : ℕ) (k : WaitStep) (t : Option ℕ) (p : Place) → byte_at o < words → words ≡ client_base z + count → Permits z k (Some o) t p → word_of z o k < words
-word_below z o count words (Sload q (Some (call.Set r))) t p below wide ok = let few = ok.0.1 in omega arith
-word_below z o count words (Sload q (Some (call.Wait w))) t p below wide ok = let is : o ≡ q = cc (ok.0) in omega arith
-word_below z o count words (Sload q (Some call.IsSet)) t p below wide ok = let is : o ≡ q = cc (ok.0) in omega arith
-word_below z o count words (Sload q (Some (call.Sleep c))) t p below wide ok = let is : o ≡ q = cc (ok.0.0) in omega arith
-word_below z o count words (Sload q (Some c)) t p below wide ok = absurd ok.0
-word_below z o count words (Sload q None) t p below wide ok = let is : o ≡ q = cc (ok.0) in omega arith
-word_below z o count words (Sset q) t p below wide ok = let few = ok.0 in omega arith
-word_below z o count words (Reset b) t p below wide ok = omega arith
-word_below z o count words (Mstore may) t p below wide ok = omega arith
-word_below z o count words (Mload q) t p below wide ok = let few = ok.0 in omega arith
-word_below z o count words (Byte q) t p below wide ok = let few = ok.0 in omega arith
-word_below z o count words Look t p below wide ok = omega arith
-word_below z o count words Drain t p below wide ok = omega arith
-word_below z o count words (Shload b) t p below wide ok = omega arith
-word_below z o count words (Shstore b) t p below wide ok = omega arith
-word_below z o count words (Take x (Some c)) t p below wide ok = let few = ok.0 in omega arith
-word_below z o count words (Take x None) t p below wide ok = let few = ok.0 in omega arith
-word_below z o count words (Spin x) t p below wide ok = let few = ok.0 in omega arith
-word_below z o count words (Free x after) t p below wide ok = let few = ok.0 in omega arith
+pub word_below : (z : Size) (o count words : ℕ) (k : WaitStep) → z.cvs ≤ most_conditions → (t : Option ℕ) (p : Place) → byte_at o < words → words ≡ client_base z + count → Permits z k (Some o) t p → word_of z o k < words
+word_below z o count words (Sload q (Some (call.Set r))) most t p below wide ok = let few = ok.0.1 in omega arith
+word_below z o count words (Sload q (Some (call.Wait w))) most t p below wide ok = let is : o ≡ q = cc (ok.0) in omega arith
+word_below z o count words (Sload q (Some call.IsSet)) most t p below wide ok = let is : o ≡ q = cc (ok.0) in omega arith
+word_below z o count words (Sload q (Some (call.Sleep c))) most t p below wide ok = let is : o ≡ q = cc (ok.0.0) in omega arith
+word_below z o count words (Sload q (Some c)) most t p below wide ok = absurd ok.0
+word_below z o count words (Sload q None) most t p below wide ok = let is : o ≡ q = cc (ok.0) in omega arith
+word_below z o count words (Sset q) most t p below wide ok = let few = ok.0 in omega arith
+word_below z o count words (Reset b) most t p below wide ok = omega arith
+word_below z o count words (Mstore may) most t p below wide ok = omega arith
+word_below z o count words (Mload q) most t p below wide ok = let few = ok.0 in omega arith
+word_below z o count words (Byte q) most t p below wide ok = let few = ok.0 in omega arith
+word_below z o count words Look most t p below wide ok = omega arith
+word_below z o count words Drain most t p below wide ok = omega arith
+word_below z o count words (Shload b) most t p below wide ok = omega arith
+word_below z o count words (Shstore b) most t p below wide ok = omega arith
+word_below z o count words (Take x (Some c)) most t p below wide ok = let few = spot_inside z x most ok.0 in omega arith
+word_below z o count words (Take x None) most t p below wide ok = let few = spot_inside z x most ok.0 in omega arith
+word_below z o count words (Spin x) most t p below wide ok = let few = spot_inside z x most ok.0 in omega arith
+word_below z o count words (Free x after) most t p below wide ok = let few = spot_inside z x most ok.0 in omega arith
 
 -- what a step leaves is 0 or 1
 pub small_after : (k : WaitStep) (n : ℕ) → n ≤ 1 → becomes k n ≤ 1
@@ -110,13 +110,13 @@ pub flags_apart : (z : Size) (words : List ℕ) (i x : ℕ) → Flags z words �
 flags_apart z words i x h out j some below = let there = get_or-set_other words i j x 0 (λ e. omega arith) in let old = h j some below in omega arith
 
 -- a slot that is taken or given back leaves as many
-pub homes_long : (z : Size) (k : WaitStep) (o n : ℕ) (found : Kept) (p : Place) (homes : List (maybe.Option Kept)) → length (homes_after homes (carried z k o p) (act_of z k n found)) ≡ length homes
+pub homes_long : (z : Size) (k : WaitStep) (o n : ℕ) (found : Kept) (p : Place) (homes : List (maybe.Option Kept)) → length (homes_after homes (carried k o p) (act_of k n found)) ≡ length homes
 homes_long z (Take x b) o n found p homes = by_word (eqb n 0)
   where
-    by_word : (clear : Bool) → length (homes_after homes (carried z (Take x b) o p) (cond clear (takes (slot_of z x) found) keeps)) ≡ length homes
-    by_word true = length-set homes (slot_of z x) maybe.none
+    by_word : (clear : Bool) → length (homes_after homes (carried (Take x b) o p) (cond clear (takes (slot_of x) found) keeps)) ≡ length homes
+    by_word true = length-set homes (slot_of x) maybe.none
     by_word false = refl
-homes_long z (Free x after) o n found p homes = length-set homes (slot_of z x) (maybe.some (left_at o p))
+homes_long z (Free x after) o n found p homes = length-set homes (slot_of x) (maybe.some (left_at o p))
 homes_long z k o n found p homes = refl
 
 -- no two seats have one number
@@ -151,21 +151,21 @@ module _ {C : Type 0} where
       numbered : (u : Standing) → standing_of w ≡ u → u.own ≡ None → ⊥
       numbered u is none = let a : w.own ≡ u.own = ap (λ (x : Standing). x.own) is in cc
 
-module _ {C : Type 0} (holds : List ℕ → List (PartyView C) → List ℕ → Type 0) (z : Size) (phase count : ℕ) (s : WaitState C) (r : Rule holds z phase count s) (id : ℕ) (v : WaitView C) (o : ℕ) (at : get_elem? s.views id ≡ maybe.some v) (own : v.own ≡ Some o) where
+module _ {C : Type 0} (means : Meanings C) (z : Size) (phase count : ℕ) (s : WaitState C) (r : Rule means z phase count s) (id : ℕ) (v : WaitView C) (o : ℕ) (at : get_elem? s.views id ≡ maybe.some v) (own : v.own ≡ Some o) where
   pub own_below : o < z.procs
   own_below = let a = own_inside _ _ _ r.roster id o (numbers_of v) (at_map numbers_of s.views id v at) own in let b = r.roster.few in omega arith
 
   -- the step k of the backend o
   abbrev pub after_own : WaitStep → WaitState C
   after_own k =
-      let i : ℕ = word_of z o k in let n : ℕ = get_or s.words i 0 in let found : Kept = home_in s.homes (slot_number z k) in
-      stepped s i (becomes k n) id (carried z k o v.place) (next_with z k v n found) (act_of z k n found)
+      let i : ℕ = word_of z o k in let n : ℕ = get_or s.words i 0 in let found : Kept = home_in s.homes (slot_number k) in
+      stepped s i (becomes k n) id (carried k o v.place) (next_with z k v n found) (act_of k n found)
 
-  pub step_kept : (k : WaitStep) → Permits z k (Some o) v.target v.place → Rule holds z phase count (after_own k)
-  step_kept k ok =
-      let i : ℕ = word_of z o k in let n : ℕ = get_or s.words i 0 in let found : Kept = home_in s.homes (slot_number z k) in let w : WaitView C = next_with z k v n found in
+  pub step_kept : Owes means → (k : WaitStep) → Permits z k (Some o) v.target v.place → StepSuits means k v → Rule means z phase count (after_own k)
+  step_kept laws k ok suits =
+      let i : ℕ = word_of z o k in let n : ℕ = get_or s.words i 0 in let found : Kept = home_in s.homes (slot_number k) in let w : WaitView C = next_with z k v n found in
       let below = own_below in let at' = at_map standing_of s.views id v at in let long = r.sized.long in
-      let inside = word_inside z o k v.target v.place below ok in
+      let inside = word_inside z o k r.sized.cvs v.target v.place below ok in
       let fit = r.places.fits id (standing_of v) at' in let target = r.places.targets id (standing_of v) at' in
       let o_is : number_of v.own ≡ o = ap number_of own in
       let goes = ap (λ (x : ℕ). place_then z k n found record { own = x; target = v.target; place = v.place }) o_is in
@@ -174,8 +174,9 @@ module _ {C : Type 0} (holds : List ℕ → List (PartyView C) → List ℕ → 
       let seen = sym (map-set standing_of s.views id w) in
       let first : get_or (set s.words i (becomes k n)) 0 0 ≡ get_or s.words 0 0 = get_or-set_other s.words i 0 (becomes k n) 0 (λ e. omega arith) in
       let numbers = sym (unseen numbers_of s.views id v w at refl) in
+      let b = attended_step means z phase count s r laws id v o at own k inside.1 ok suits in
       record {
-        sized = record { procs = r.sized.procs; long = length-set s.words i (becomes k n) ∙ long; slots = homes_long z k o n found v.place s.homes ∙ r.sized.slots };
+        sized = record { procs = r.sized.procs; cvs = r.sized.cvs; long = length-set s.words i (becomes k n) ∙ long; slots = homes_long z k o n found v.place s.homes ∙ r.sized.slots };
         flags = flags_set z s.words i (becomes k n) r.flags (omega arith) (small_after k n (r.flags i inside.0 inside.1));
         roster = subst (λ (x : ℕ × List Numbers). Roster z.procs x.0 x.1) (λ j. (sym first j, numbers j)) r.roster;
         counted = subst (λ (x : ℕ × List Numbers). Rattle.wait_core.specs.Rule.SeatsAreCounted x.0 x.1) (λ j. (sym first j, numbers j)) r.counted;
@@ -187,19 +188,21 @@ module _ {C : Type 0} (holds : List ℕ → List (PartyView C) → List ℕ → 
         shutdown = subst (Rattle.wait_core.specs.ShutdownWakes.ShutdownWakes z (set s.words i (becomes k n))) seen
             (shutdown_kept z s.words (map standing_of s.views) one id o (standing_of v) (standing_of w) at' own own below (omega arith) r.shutdown k found ok e goes);
         made = subst (WordsAreMade z (set s.words i (becomes k n))) (sym (map-set doings_of s.views id w)) (made_step z s.words (map doings_of s.views) id (doings_of v) o k (list_of k n found (number_of v.own) v.place) (at_map doings_of s.views id v at) own (omega arith) r.made);
-        lists_made = subst (ListsAreMade z (homes_after s.homes (carried z k o v.place) (act_of z k n found))) (sym (map-set doings_of s.views id w ∙ ap (λ (x : ℕ). set (map doings_of s.views) id record (doings_of v) { steps = v.steps ++ made_with k n (list_of k n found x v.place) ∷ [] }) o_is)) (lists_made_step z s.homes (map doings_of s.views) id (doings_of v) o (at_map doings_of s.views id v at) own r.lists_made k n found v.place (lists_found z (get_or s.words 0 0) s.words s.homes s.views (omega arith) r.flags r.roster r.lists id v at o k ok));
-        lists = lists_step z (get_or s.words 0 0) s.words s.homes s.views (omega arith) r.flags r.roster r.lists id v at o own below k ok fit (r.flags i inside.0 inside.1);
-        left = subst LeftAreFree (sym (unseen party_of s.views id v w at refl)) r.left;
-        barriers = subst (λ (l : List (PartyView C)). Barriers l (phases z phase)) (sym (unseen party_of s.views id v w at refl)) r.barriers;
-        here = subst (IdleAreHere (phases z phase)) (sym (map-set attendance_of s.views id w)) (each_set (IsHere (phases z phase)) (map attendance_of s.views) id (attendance_of w) r.here (λ _. r.here id (attendance_of v) (at_map attendance_of s.views id v at) refl));
-        client = subst (λ (x : List ℕ × List (PartyView C)). holds x.0 x.1 (phases z phase))
-            (λ j. (sym (drop-set-lt (client_base z) s.words i (becomes k n) inside.1) j, sym (unseen party_of s.views id v w at refl) j)) r.client;
+        lists_made = subst (ListsAreMade z (homes_after s.homes (carried k o v.place) (act_of k n found))) (sym (map-set doings_of s.views id w ∙ ap (λ (x : ℕ). set (map doings_of s.views) id record (doings_of v) { steps = v.steps ++ made_with k n (list_of k n found x v.place) ∷ [] }) o_is)) (lists_made_step z s.homes (map doings_of s.views) id (doings_of v) o (at_map doings_of s.views id v at) own r.lists_made k n found v.place (lists_found z r.sized.cvs (get_or s.words 0 0) s.words s.homes s.views (omega arith) r.flags r.roster r.lists id v at o k ok));
+        lists = lists_step z r.sized.cvs (get_or s.words 0 0) s.words s.homes s.views (omega arith) r.flags r.roster r.lists id v at o own below k ok fit (r.flags i inside.0 inside.1);
+        left = b.left;
+        barriers = b.barriers;
+        here = b.here;
+        participants = b.participants;
+        reached = b.reached;
+        suits = b.suits;
+        client = b.client;
       }
 
   -- the same, where the seat's number is read from its view
-  pub machine_kept : (k : WaitStep) → Allowed z k v → Rule holds z phase count (after z s id v k)
-  machine_kept k ok = subst (Rule holds z phase count) (sym same) (step_kept k (subst (λ (x : Option ℕ). Permits z k x v.target v.place) own ok))
+  pub machine_kept : Owes means → (k : WaitStep) → Allowed z k v → StepSuits means k v → Rule means z phase count (after z s id v k)
+  machine_kept laws k ok suits = subst (Rule means z phase count) (sym same) (step_kept laws k (subst (λ (x : Option ℕ). Permits z k x v.target v.place) own ok) suits)
     where
       same : after z s id v k ≡ after_own k
-      same = ap (λ (x : ℕ). let i : ℕ = word_of z x k in let n : ℕ = get_or s.words i 0 in let found : Kept = home_in s.homes (slot_number z k) in
-          stepped s i (becomes k n) id (carried z k x v.place) (next_with z k v n found) (act_of z k n found)) (ap number_of own)
+      same = ap (λ (x : ℕ). let i : ℕ = word_of z x k in let n : ℕ = get_or s.words i 0 in let found : Kept = home_in s.homes (slot_number k) in
+          stepped s i (becomes k n) id (carried k x v.place) (next_with z k v n found) (act_of k n found)) (ap number_of own)

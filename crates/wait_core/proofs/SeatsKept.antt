@@ -7,23 +7,29 @@ use lib.ListN.{get_elem?}
 use lib.Seq.{map-set}
 use Rattle.atomic_table.specs.Table.{keeps, stepped}
 use Rattle.atomic_table.proofs.Lists.{at_map, set_else}
+use Rattle.wait_core.specs.declared.step.Spot.TheVariants.{Bar}
 use Rattle.wait_core.specs.declared.view.PartyView.{PartyView}
+use Rattle.wait_core.specs.declared.view.Record.{Record}
 use Rattle.wait_core.specs.declared.view.Size.{Size}
 use Rattle.wait_core.specs.declared.view.WaitView.{WaitView}
+use Rattle.wait_core.specs.Meanings.{Meanings}
+use Rattle.seat_roster.specs.Totals.{total}
 use Rattle.seat_roster.specs.Roster.{Numbers, Roster, count as numbers_in, numbered, one_if, drew, gave, took}
-use Rattle.wait_core.specs.Words.{client_base, phases}
-use Rattle.wait_core.specs.Machine.{WaitState}
-use Rattle.wait_core.specs.Parties.{with_client, newcomer, joined, left_over, Barriers, IsStep, IsDraw, IsJoin}
+use Rattle.wait_core.specs.Words.{slot_of, client_base}
+use Rattle.wait_core.specs.Machine.{WaitState, Place}
+use Rattle.wait_core.specs.Parties.{phase_of, with_client, newcomer, joined, left_over, Barriers, IsStep, IsDraw, IsJoin}
 use Rattle.wait_core.specs.Seating.{Standing, Doings, numbers_of, standing_of, doings_of, party_of, client_moved, with_drawn, stays, comes, took_in, spent_view}
 use Rattle.wait_core.specs.LeftAreFree.{IsFree, LeftAreFree}
 use Rattle.wait_core.specs.Fits.{PlacesFit}
-use Rattle.wait_core.specs.Barriers.{attendance_of, waits_at, IsHere, IdleAreHere}
+use Rattle.wait_core.specs.Barriers.{Attendance, attendance_of, waits_at, asks_at, held_field, phases, phases_in, takes_part, CountsParticipants, NoneIsBelow, IsHere, IdleAreHere, JobSuits, CallsSuit}
 use Rattle.wait_core.specs.WordsAreMade.{WordsAreMade}
 use Rattle.wait_core.specs.Promises.{LastHoldsAlone}
 use Rattle.wait_core.specs.Rule.{SeatsAreCounted, Rule}
 use Rattle.seat_roster.proofs.Totals.{total_set, total_snoc, total_at, total_two}
 use Rattle.seat_roster.proofs.Stretches.{unseen, from_seen, each_set, each_more}
 use Rattle.seat_roster.proofs.Numbers.{roster_drew, roster_gave, roster_took, pending_inside}
+use Rattle.wait_core.proofs.Records.{field_same}
+use Rattle.wait_core.proofs.Attending.{attended, unmoved, moved, phases_same, few_views}
 use Rattle.wait_core.proofs.BarriersKept.{barriers_set, barriers_more, barriers_joined}
 use Rattle.wait_core.proofs.Turns.{first as is_first, client as is_client}
 use Rattle.wait_core.specs.ListsAreMade.{ListsAreMade}
@@ -40,27 +46,19 @@ has_number own p is none = absurd (cc)
 abbrev WasLeft : {C : Type 0} → PartyView C → Type 0
 WasLeft u = u.proc ≡ None → IsFree u
 
--- the seats that wait nowhere, once a view is changed that is attached as before, and that waits where it did
-here_set : {C : Type 0} (phases : List ℕ) (views : List (WaitView C)) (id : ℕ) (v w : WaitView C) → get_elem? views id ≡ maybe.some v → (IsHere phases (attendance_of v) → IsHere phases (attendance_of w)) → IdleAreHere phases (map attendance_of views) → IdleAreHere phases (map attendance_of (set views id w))
-here_set phases views id v w at same h = subst (IdleAreHere phases) (sym (map-set attendance_of views id w)) (each_set (IsHere phases) (map attendance_of views) id (attendance_of w) h (same (h id (attendance_of v) (at_map attendance_of views id v at))))
-
-module _ {C : Type 0} (holds : List ℕ → List (PartyView C) → List ℕ → Type 0) (z : Size) (phase count : ℕ) where
-  -- there are at most as many views as numbers
-  pub few_views : (s : WaitState C) → Rule holds z phase count s → length (map party_of s.views) ≤ 64
-  few_views s r = let a = r.counted in let b = r.roster.few in let c = r.sized.procs in let x = length-map s.views numbers_of in let y = length-map s.views party_of in omega arith
-
-  -- and no more than the seat with the number 0 has drawn, and itself
-  pub few_drawn : (s : WaitState C) → Rule holds z phase count s → (id : ℕ) (v : WaitView C) → get_elem? s.views id ≡ maybe.some v → v.own ≡ Some 0 → length (map party_of s.views) ≤ v.drawn + 1
+module _ {C : Type 0} (means : Meanings C) (z : Size) (phase count : ℕ) where
+  -- there are no more views than the seat with the number 0 has drawn, and itself
+  pub few_drawn : (s : WaitState C) → Rule means z phase count s → (id : ℕ) (v : WaitView C) → get_elem? s.views id ≡ maybe.some v → v.own ≡ Some 0 → length (map party_of s.views) ≤ v.drawn + 1
   few_drawn s r id v at own = let up = (r.roster.drawer id (numbers_of v) (at_map numbers_of s.views id v at) own).up_to in let a = r.counted in let x = length-map s.views numbers_of in let y = length-map s.views party_of in omega arith
 
   -- what a client's step may suppose: its seat has a number, and is in no call
-  pub is_step : (s : WaitState C) → Rule holds z phase count s → (id : ℕ) (v : WaitView C) → get_elem? s.views id ≡ maybe.some v → (p : ℕ) → v.own ≡ Some p → v.place ≡ [] → IsStep (map party_of s.views) (phases z phase) id (party_of v)
-  is_step s r id v at p own idle = record { at = at_map party_of s.views id v at; own = (p, own); few = few_views s r; barriers = r.barriers; here = r.here id (attendance_of v) (at_map attendance_of s.views id v at) (ap waits_at idle) }
+  pub is_step : (s : WaitState C) → Rule means z phase count s → (id : ℕ) (v : WaitView C) → get_elem? s.views id ≡ maybe.some v → (p : ℕ) → v.own ≡ Some p → v.place ≡ [] → IsStep (map party_of s.views) (phases_in z s) id (party_of v)
+  is_step s r id v at p own idle = record { at = at_map party_of s.views id v at; own = (p, own); few = few_views means z phase count s r; barriers = r.barriers; here = r.here id (attendance_of v) (at_map attendance_of s.views id v at) (ap waits_at idle) }
 
   -- a step of the client's f on its word k
-  pub client_kept : (s : WaitState C) → Rule holds z phase count s → (id : ℕ) (v : WaitView C) → get_elem? s.views id ≡ maybe.some v → (p : ℕ) → v.own ≡ Some p → v.place ≡ [] → (k : ℕ) (f : ℕ → ℕ) (then : ℕ → C) → k < count
-      → ((words : List ℕ) (views : List (PartyView C)) (phases : List ℕ) → holds words views phases → IsStep views phases id (party_of v) → holds (set words k (f (get_or words k 0))) (set views id (with_client (party_of v) (then (get_or words k 0)))) phases)
-      → let n = get_or s.words (client_base z + k) 0 in Rule holds z phase count (stepped s (client_base z + k) (f n) id [] (client_moved v (then n)) keeps)
+  pub client_kept : (s : WaitState C) → Rule means z phase count s → (id : ℕ) (v : WaitView C) → get_elem? s.views id ≡ maybe.some v → (p : ℕ) → v.own ≡ Some p → v.place ≡ [] → (k : ℕ) (f : ℕ → ℕ) (then : ℕ → C) → k < count
+      → ((words : List ℕ) (views : List (PartyView C)) (phases : List ℕ) → means.holds words views phases → IsStep views phases id (party_of v) → means.holds (set words k (f (get_or words k 0))) (set views id (with_client (party_of v) (then (get_or words k 0)))) phases)
+      → let n = get_or s.words (client_base z + k) 0 in Rule means z phase count (stepped s (client_base z + k) (f n) id [] (client_moved v (then n)) keeps)
   client_kept s r id v at p own idle k f then below law =
       let b : ℕ = client_base z in let n : ℕ = get_or s.words (b + k) 0 in let w : WaitView C = client_moved v (then n) in
       let agree : Agree z s.words (set s.words (b + k) (f n)) = λ i some inside. get_or-set_other s.words (b + k) i (f n) 0 (λ e. omega arith) in
@@ -68,8 +66,17 @@ module _ {C : Type 0} (holds : List ℕ → List (PartyView C) → List ℕ → 
       let first : get_or (set s.words (b + k) (f n)) 0 0 ≡ get_or s.words 0 0 = get_or-set_other s.words (b + k) 0 (f n) 0 (λ e. omega arith) in
       let numbers = sym (unseen numbers_of s.views id v w at refl) in
       let found : get_or (drop b s.words) k 0 ≡ n = get_or-drop b s.words k 0 in
+      let seats = map attendance_of s.views in let seat = at_map attendance_of s.views id v at in let here = r.here id (attendance_of v) seat (ap waits_at idle) in
+      let b' = moved means z phase s (attended means z phase count s r) id v w at (set s.words (b + k) (f n)) s.homes (has_number v.own p own) (with_client (party_of v) (then n)) refl refl refl
+          (λ c below. field_same s.homes seats id (attendance_of v) (attendance_of w) seat (λ x. x.phase) c refl)
+          (λ c below. let sum = total_set (takes_part c) seats id (attendance_of v) (attendance_of w) seat in let was = r.participants c below in let e = field_same s.homes seats id (attendance_of v) (attendance_of w) seat (λ x. x.participants) c refl in omega arith)
+          (λ c ph e. (here c ph e, r.barriers.inside id (party_of v) (at_map party_of s.views id v at) c ph e))
+          (subst (λ (q : Place). JobSuits means (asks_at q) (party_of w)) (sym idle) tt)
+          (subst (λ (x : List ℕ). means.holds x (set (map party_of s.views) id (with_client (party_of v) (then n))) (phases_in z s)) (sym (drop-set-add b s.words k (f n)))
+          (subst (λ (x : ℕ). means.holds (set (drop b s.words) k (f x)) (set (map party_of s.views) id (with_client (party_of v) (then x))) (phases_in z s)) found
+          (law (drop b s.words) (map party_of s.views) (phases_in z s) r.client (is_step s r id v at p own idle)))) in
       record {
-        sized = record { procs = r.sized.procs; long = length-set s.words (b + k) (f n) ∙ r.sized.long; slots = r.sized.slots };
+        sized = record { procs = r.sized.procs; cvs = r.sized.cvs; long = length-set s.words (b + k) (f n) ∙ r.sized.long; slots = r.sized.slots };
         flags = flags_same z s.words (set s.words (b + k) (f n)) (map standing_of s.views) (map standing_of (set s.views id w)) agree same r.flags;
         roster = subst (λ (x : ℕ × List Numbers). Roster z.procs x.0 x.1) (λ j. (sym first j, numbers j)) r.roster;
         counted = subst (λ (x : ℕ × List Numbers). SeatsAreCounted x.0 x.1) (λ j. (sym first j, numbers j)) r.counted;
@@ -79,19 +86,19 @@ module _ {C : Type 0} (holds : List ℕ → List (PartyView C) → List ℕ → 
         shutdown = shutdown_same z s.words (set s.words (b + k) (f n)) (map standing_of s.views) (map standing_of (set s.views id w)) agree same r.shutdown;
         made = subst (WordsAreMade z (set s.words (b + k) (f n))) (sym (unseen doings_of s.views id v w at refl)) (made_same z s.words (set s.words (b + k) (f n)) (map doings_of s.views) agree r.made);
         lists_made = subst (ListsAreMade z s.homes) (sym (unseen doings_of s.views id v w at refl)) r.lists_made;
-        lists = lists_apart z (get_or s.words 0 0) s.words s.homes s.views (omega (arith, r.sized.long)) r.flags r.roster r.lists id v at (b + k) (f n) w (is_client (omega arith)) refl;
-        left = subst LeftAreFree (sym (map-set party_of s.views id w)) (each_set WasLeft (map party_of s.views) id (party_of w) r.left (λ none. absurd (has_number v.own p own none)));
-        barriers = subst (λ (l : List (PartyView C)). Barriers l (phases z phase)) (sym (map-set party_of s.views id w)) (barriers_set (map party_of s.views) (phases z phase) id (party_of v) (party_of w) (at_map party_of s.views id v at) r.barriers refl refl);
-        here = here_set (phases z phase) s.views id v w at (λ waits. waits) r.here;
-        client = subst (λ (x : List ℕ × List (PartyView C)). holds x.0 x.1 (phases z phase))
-            (λ i. (sym (drop-set-add b s.words k (f n)) i, sym (map-set party_of s.views id w) i))
-            (subst (λ (x : ℕ). holds (set (drop b s.words) k (f x)) (set (map party_of s.views) id (with_client (party_of v) (then x))) (phases z phase)) found
-            (law (drop b s.words) (map party_of s.views) (phases z phase) r.client (is_step s r id v at p own idle)));
+        lists = lists_apart z r.sized.cvs (get_or s.words 0 0) s.words s.homes s.views (omega (arith, r.sized.long)) r.flags r.roster r.lists id v at (b + k) (f n) w (is_client (omega arith)) refl;
+        left = b'.left;
+        barriers = b'.barriers;
+        here = b'.here;
+        participants = b'.participants;
+        reached = b'.reached;
+        suits = b'.suits;
+        client = b'.client;
       }
 
   -- the seat with the number 0 draws the next
-  pub draw_kept : (s : WaitState C) → Rule holds z phase count s → (id : ℕ) (v : WaitView C) → get_elem? s.views id ≡ maybe.some v → v.own ≡ Some 0 → v.pending ≡ None → v.drawn + 1 < z.procs → (x : ℕ) → x ≡ get_or s.words 0 0 + 1
-      → Rule holds z phase count (stepped s 0 x id [] (with_drawn v) keeps)
+  pub draw_kept : (s : WaitState C) → Rule means z phase count s → (id : ℕ) (v : WaitView C) → get_elem? s.views id ≡ maybe.some v → v.own ≡ Some 0 → v.pending ≡ None → v.drawn + 1 < z.procs → (x : ℕ) → x ≡ get_or s.words 0 0 + 1
+      → Rule means z phase count (stepped s 0 x id [] (with_drawn v) keeps)
   draw_kept s r id v at own free room x is =
       let w : WaitView C = with_drawn v in let next : ℕ = get_or s.words 0 0 in let ns = map numbers_of s.views in let at' = at_map numbers_of s.views id v at in
       let up = (r.roster.drawer id (numbers_of v) at' own).up_to in let long = r.sized.long in
@@ -99,8 +106,11 @@ module _ {C : Type 0} (holds : List ℕ → List (PartyView C) → List ℕ → 
       let same = counts_are (map standing_of s.views) (map standing_of (set s.views id w)) (unseen standing_of s.views id v w at refl) in
       let first : get_or (set s.words 0 x) 0 0 ≡ next + 1 = get_or-set_same s.words 0 x 0 (omega arith) ∙ is in
       let numbers : set ns id (drew (numbers_of v)) ≡ map numbers_of (set s.views id w) = sym (map-set numbers_of s.views id w) in
+      let seats = map attendance_of s.views in let seat = at_map attendance_of s.views id v at in
+      let b = unmoved means z phase s (attended means z phase count s r) id v w at (set s.words 0 x) s.homes (drop-set-lt (client_base z) s.words 0 x (omega arith)) refl
+          (λ c below. field_same s.homes seats id (attendance_of v) (attendance_of w) seat (λ y. y.phase) c refl) (λ c below. field_same s.homes seats id (attendance_of v) (attendance_of w) seat (λ y. y.participants) c refl) (r.suits id (attendance_of v) seat) in
       record {
-        sized = record { procs = r.sized.procs; long = length-set s.words 0 x ∙ long; slots = r.sized.slots };
+        sized = record { procs = r.sized.procs; cvs = r.sized.cvs; long = length-set s.words 0 x ∙ long; slots = r.sized.slots };
         flags = flags_same z s.words (set s.words 0 x) (map standing_of s.views) (map standing_of (set s.views id w)) agree same r.flags;
         roster = subst (λ (y : ℕ × List Numbers). Roster z.procs y.0 y.1) (λ j. (sym first j, numbers j)) (roster_drew z.procs next ns r.roster id (numbers_of v) at' own free (omega arith));
         counted = subst (λ (y : ℕ × List Numbers). SeatsAreCounted y.0 y.1) (λ j. (sym first j, numbers j))
@@ -111,17 +121,20 @@ module _ {C : Type 0} (holds : List ℕ → List (PartyView C) → List ℕ → 
         shutdown = shutdown_same z s.words (set s.words 0 x) (map standing_of s.views) (map standing_of (set s.views id w)) agree same r.shutdown;
         made = subst (WordsAreMade z (set s.words 0 x)) (sym (unseen doings_of s.views id v w at refl)) (made_same z s.words (set s.words 0 x) (map doings_of s.views) agree r.made);
         lists_made = subst (ListsAreMade z s.homes) (sym (unseen doings_of s.views id v w at refl)) r.lists_made;
-        lists = lists_apart z (get_or s.words 0 0) s.words s.homes s.views (omega (arith, long)) r.flags r.roster r.lists id v at 0 x w (is_first refl) refl;
-        left = subst LeftAreFree (sym (unseen party_of s.views id v w at refl)) r.left;
-        barriers = subst (λ (l : List (PartyView C)). Barriers l (phases z phase)) (sym (unseen party_of s.views id v w at refl)) r.barriers;
-        here = here_set (phases z phase) s.views id v w at (λ waits. waits) r.here;
-        client = subst (λ (y : List ℕ × List (PartyView C)). holds y.0 y.1 (phases z phase)) (λ j. (sym (drop-set-lt (client_base z) s.words 0 x (omega arith)) j, sym (unseen party_of s.views id v w at refl) j)) r.client;
+        lists = lists_apart z r.sized.cvs (get_or s.words 0 0) s.words s.homes s.views (omega (arith, long)) r.flags r.roster r.lists id v at 0 x w (is_first refl) refl;
+        left = b.left;
+        barriers = b.barriers;
+        here = b.here;
+        participants = b.participants;
+        reached = b.reached;
+        suits = b.suits;
+        client = b.client;
       }
 
   -- the number drawn goes to a new seat
-  pub seat_kept : (s : WaitState C) → Rule holds z phase count s → (id : ℕ) (v : WaitView C) → get_elem? s.views id ≡ maybe.some v → (n : ℕ) → v.pending ≡ Some n → (c : C)
-      → ((words : List ℕ) (views : List (PartyView C)) (phases : List ℕ) (proc : ℕ) → holds words views phases → IsDraw views phases proc → holds words (views ++ newcomer c (Some proc) ∷ []) phases)
-      → Rule holds z phase count record { words = s.words; homes = s.homes; views = set s.views id (stays v) ++ comes c v ∷ [] }
+  pub seat_kept : (s : WaitState C) → Rule means z phase count s → (id : ℕ) (v : WaitView C) → get_elem? s.views id ≡ maybe.some v → (n : ℕ) → v.pending ≡ Some n → (c : C)
+      → ((words : List ℕ) (views : List (PartyView C)) (phases : List ℕ) (proc : ℕ) → means.holds words views phases → IsDraw views phases proc → means.holds words (views ++ newcomer c (Some proc) ∷ []) phases)
+      → Rule means z phase count record { words = s.words; homes = s.homes; views = set s.views id (stays v) ++ comes c v ∷ [] }
   seat_kept s r id v at n drawn c law =
       let vs = set s.views id (stays v) in let w : WaitView C = comes c v in let ns = map numbers_of s.views in let at' = at_map numbers_of s.views id v at in
       let agree : Agree z s.words s.words = λ i some inside. refl in
@@ -131,6 +144,10 @@ module _ {C : Type 0} (holds : List ℕ → List (PartyView C) → List ℕ → 
       let parties : map party_of s.views ++ newcomer c (Some n) ∷ [] ≡ map party_of (vs ++ w ∷ []) = sym (map-append party_of vs (w ∷ []) ∙ (ap (λ (l : List (PartyView C)). l ++ newcomer c v.pending ∷ []) (unseen party_of s.views id v (stays v) at refl) ∙ ap (λ (o : Option ℕ). map party_of s.views ++ newcomer c o ∷ []) drawn)) in
       let one : one_if v.pending ≡ 1 = ap one_if drawn in let all = r.counted in let few = r.roster.few in let most = r.sized.procs in
       let low = total_at (λ (u : Numbers). one_if u.pending) ns id (numbers_of v) at' in
+      let before = map attendance_of s.views in
+      let seen : map attendance_of (vs ++ w ∷ []) ≡ before ++ attendance_of w ∷ [] = map-append attendance_of vs (w ∷ []) ∙ ap (λ (l : List (Attendance C)). l ++ attendance_of w ∷ []) (unseen attendance_of s.views id v (stays v) at refl) in
+      let held : (f : Record → ℕ) (i : ℕ) → total (λ (u : Attendance C). held_field f i u.place) (before ++ attendance_of w ∷ []) ≡ total (λ (u : Attendance C). held_field f i u.place) before = λ f i. let e = total_snoc (λ (u : Attendance C). held_field f i u.place) before (attendance_of w) in omega arith in
+      let stay : phases z s.homes (map attendance_of (vs ++ w ∷ [])) ≡ phases_in z s = (λ i. phases z s.homes (seen i)) ∙ phases_same z s.homes before (before ++ attendance_of w ∷ []) held in
       let x = length-map s.views numbers_of in let y = length-map s.views party_of in
       record {
         sized = r.sized;
@@ -145,21 +162,24 @@ module _ {C : Type 0} (holds : List ℕ → List (PartyView C) → List ℕ → 
         shutdown = shutdown_same z s.words s.words (map standing_of s.views) (map standing_of (vs ++ w ∷ [])) agree same r.shutdown;
         made = subst (WordsAreMade z s.words) (sym (map-append doings_of vs (w ∷ []) ∙ ap (λ (l : List Doings). l ++ record { own = v.pending; steps = []; inherited = [] } ∷ []) (unseen doings_of s.views id v (stays v) at refl))) (made_snoc z s.words (map doings_of s.views) v.pending r.made);
         lists_made = subst (ListsAreMade z s.homes) (sym (map-append doings_of vs (w ∷ []) ∙ ap (λ (l : List Doings). l ++ record { own = v.pending; steps = []; inherited = [] } ∷ []) (unseen doings_of s.views id v (stays v) at refl))) (lists_made_snoc z s.homes (map doings_of s.views) v.pending r.lists_made);
-        lists = lists_more z (get_or s.words 0 0) s.words s.homes s.views (omega (arith, r.sized.long)) r.flags r.roster r.lists id v at (stays v) w v.pending refl refl;
+        lists = lists_more z r.sized.cvs (get_or s.words 0 0) s.words s.homes s.views (omega (arith, r.sized.long)) r.flags r.roster r.lists id v at (stays v) w v.pending refl refl;
         left = subst LeftAreFree parties (each_more WasLeft (map party_of s.views) (newcomer c (Some n)) r.left (λ none. record { attached = refl; elections = refl }));
-        barriers = subst (λ (l : List (PartyView C)). Barriers l (phases z phase)) parties (barriers_more (map party_of s.views) (phases z phase) c (Some n) r.barriers);
-        here = subst (IdleAreHere (phases z phase)) (sym (map-append attendance_of vs (w ∷ []))) (each_more (IsHere (phases z phase)) (map attendance_of vs) (attendance_of w) (here_set (phases z phase) s.views id v (stays v) at (λ waits. waits) r.here) (λ _ b ph e. absurd (cc)));
-        client = subst (λ (l : List (PartyView C)). holds (drop (client_base z) s.words) l (phases z phase)) parties
-            (law (drop (client_base z) s.words) (map party_of s.views) (phases z phase) n r.client
+        barriers = subst (λ (y : List (PartyView C) × List ℕ). Barriers y.0 y.1) (λ i. (parties i, sym stay i)) (barriers_more (map party_of s.views) (phases_in z s) c (Some n) r.barriers);
+        here = subst (λ (y : List ℕ × List (Attendance C)). IdleAreHere y.0 y.1) (λ i. (sym stay i, sym seen i)) (each_more (IsHere (phases_in z s)) before (attendance_of w) r.here (λ _ b ph e. absurd (cc)));
+        participants = subst (CountsParticipants z s.homes) (sym seen) (λ b below. let was = r.participants b below in let a = total_snoc (takes_part b) before (attendance_of w) in let e = held (λ y. y.participants) (slot_of (Bar b)) in omega arith);
+        reached = subst (NoneIsBelow z phase s.homes) (sym seen) (λ b below. let was = r.reached b below in let e = held (λ y. y.phase) (slot_of (Bar b)) in omega arith);
+        suits = subst (CallsSuit means) (sym seen) (each_more (λ (u : Attendance C). JobSuits means (asks_at u.place) u.party) before (attendance_of w) r.suits tt);
+        client = subst (λ (y : List (PartyView C) × List ℕ). means.holds (drop (client_base z) s.words) y.0 y.1) (λ i. (parties i, sym stay i))
+            (law (drop (client_base z) s.words) (map party_of s.views) (phases_in z s) n r.client
             (record { barriers = r.barriers; few = omega arith; proc_below = let b = pending_inside z.procs (get_or s.words 0 0) ns r.roster id n (numbers_of v) at' drawn in omega arith }));
       }
 
   -- a seat takes in another, which is in no call
-  pub join_kept : (s : WaitState C) → Rule holds z phase count s → (id : ℕ) (v : WaitView C) → get_elem? s.views id ≡ maybe.some v → (p : ℕ) → v.own ≡ Some p → (other : ℕ) (w : WaitView C) → (other ≡ id → ⊥) → get_elem? s.views other ≡ maybe.some w
+  pub join_kept : (s : WaitState C) → Rule means z phase count s → (id : ℕ) (v : WaitView C) → get_elem? s.views id ≡ maybe.some v → (p : ℕ) → v.own ≡ Some p → v.place ≡ [] → (other : ℕ) (w : WaitView C) → (other ≡ id → ⊥) → get_elem? s.views other ≡ maybe.some w
       → w.place ≡ [] → (w.target ≡ None) × (w.attached ≡ []) → w.pending ≡ None → (both : C → C → C) (c : C)
-      → ((words : List ℕ) (views : List (PartyView C)) (phases : List ℕ) → holds words views phases → IsJoin views phases id (party_of v) other (party_of w) → holds words (set (set views id (joined both (party_of v) (party_of w))) other (left_over c)) phases)
-      → Rule holds z phase count record { words = s.words; homes = s.homes; views = set (set s.views id (took_in both v w)) other (spent_view c) }
-  join_kept s r id v at p own other w apart there still free none both c law =
+      → ((words : List ℕ) (views : List (PartyView C)) (phases : List ℕ) → means.holds words views phases → IsJoin views phases id (party_of v) other (party_of w) → means.holds words (set (set views id (joined both (party_of v) (party_of w))) other (left_over c)) phases)
+      → Rule means z phase count record { words = s.words; homes = s.homes; views = set (set s.views id (took_in both v w)) other (spent_view c) }
+  join_kept s r id v at p own idle_is other w apart there still free none both c law =
       let x : WaitView C = took_in both v w in let y : WaitView C = spent_view c in let vs = set s.views id x in let ns = map numbers_of s.views in
       let at' = at_map numbers_of s.views id v at in
       let there' : get_elem? vs other ≡ maybe.some w = set_else s.views id other x apart ∙ there in
@@ -170,6 +190,13 @@ module _ {C : Type 0} (holds : List ℕ → List (PartyView C) → List ℕ → 
       let numbers : set (set ns id (took (numbers_of v) (numbers_of w))) other (numbered None) ≡ map numbers_of (set vs other y) = sym (map-set numbers_of vs other y ∙ ap (λ (l : List Numbers). set l other (numbered None)) (map-set numbers_of s.views id x)) in
       let there_n : get_elem? (set ns id (took (numbers_of v) (numbers_of w))) other ≡ maybe.some (numbers_of w) = set_else ns id other (took (numbers_of v) (numbers_of w)) apart ∙ at_map numbers_of s.views other w there in
       let parties : set (set (map party_of s.views) id (joined both (party_of v) (party_of w))) other (left_over c) ≡ map party_of (set vs other y) = sym (map-set party_of vs other y ∙ ap (λ (l : List (PartyView C)). set l other (left_over c)) (map-set party_of s.views id x)) in
+      let before = map attendance_of s.views in let seat = at_map attendance_of s.views id v at in
+      let other_seat : get_elem? (set before id (attendance_of x)) other ≡ maybe.some (attendance_of w) = set_else before id other (attendance_of x) apart ∙ at_map attendance_of s.views other w there in
+      let seen : map attendance_of (set vs other y) ≡ set (set before id (attendance_of x)) other (attendance_of y) = map-set attendance_of vs other y ∙ ap (λ (l : List (Attendance C)). set l other (attendance_of y)) (map-set attendance_of s.views id x) in
+      let held : (f : Record → ℕ) (i : ℕ) → total (λ (u : Attendance C). held_field f i u.place) (set (set before id (attendance_of x)) other (attendance_of y)) ≡ total (λ (u : Attendance C). held_field f i u.place) before = λ f i.
+          let h : Attendance C → ℕ = λ u. held_field f i u.place in let first = total_set h before id (attendance_of v) (attendance_of x) seat in let second = total_set h (set before id (attendance_of x)) other (attendance_of w) (attendance_of y) other_seat in
+          let none : held_field f i w.place ≡ 0 = ap (held_field f i) still in omega arith in
+      let stay : phases z s.homes (map attendance_of (set vs other y)) ≡ phases_in z s = (λ i. phases z s.homes (seen i)) ∙ phases_same z s.homes before (set (set before id (attendance_of x)) other (attendance_of y)) held in
       record {
         sized = r.sized;
         flags = r.flags;
@@ -185,18 +212,25 @@ module _ {C : Type 0} (holds : List ℕ → List (PartyView C) → List ℕ → 
             (made_joined z s.words (map doings_of s.views) id other (doings_of v) (doings_of w) apart (at_map doings_of s.views id v at) (at_map doings_of s.views other w there) r.made);
         lists_made = subst (ListsAreMade z s.homes) (sym (map-set doings_of vs other y ∙ ap (λ (l : List Doings). set l other record { own = None; steps = []; inherited = [] }) (map-set doings_of s.views id x)))
             (lists_made_joined z s.homes (map doings_of s.views) id other (doings_of v) (doings_of w) apart (at_map doings_of s.views id v at) (at_map doings_of s.views other w there) r.lists_made);
-        lists = lists_joined z (get_or s.words 0 0) s.words s.homes s.views (omega (arith, r.sized.long)) r.flags r.roster r.lists id v at other w x y apart there still free.0 refl refl;
+        lists = lists_joined z r.sized.cvs (get_or s.words 0 0) s.words s.homes s.views (omega (arith, r.sized.long)) r.flags r.roster r.lists id v at other w x y apart there still free.0 refl refl;
         left = subst LeftAreFree parties (each_set WasLeft (set (map party_of s.views) id (joined both (party_of v) (party_of w))) other (left_over c)
             (each_set WasLeft (map party_of s.views) id (joined both (party_of v) (party_of w)) r.left (λ none. absurd (has_number v.own p own none))) (λ none. record { attached = refl; elections = refl }));
-        barriers = subst (λ (l : List (PartyView C)). Barriers l (phases z phase)) parties (barriers_joined (map party_of s.views) (phases z phase) id other (party_of v) (party_of w) both c r.barriers (at_map party_of s.views id v at) (at_map party_of s.views other w there) apart);
-        here = here_set (phases z phase) vs other w y there' (λ _ _ b ph e. absurd (cc)) (here_set (phases z phase) s.views id v x at (λ waits. waits) r.here);
-        client = subst (λ (l : List (PartyView C)). holds (drop (client_base z) s.words) l (phases z phase)) parties
-            (law (drop (client_base z) s.words) (map party_of s.views) (phases z phase) r.client
-            (record { at = at_map party_of s.views id v at; own = (p, own); apart = apart; there = at_map party_of s.views other w there; free = free.1; few = few_views s r; barriers = r.barriers }));
+        barriers = subst (λ (q : List (PartyView C) × List ℕ). Barriers q.0 q.1) (λ i. (parties i, sym stay i)) (barriers_joined (map party_of s.views) (phases_in z s) id other (party_of v) (party_of w) both c r.barriers (at_map party_of s.views id v at) (at_map party_of s.views other w there) apart);
+        here = subst (λ (q : List ℕ × List (Attendance C)). IdleAreHere q.0 q.1) (λ i. (sym stay i, sym seen i))
+            (each_set (IsHere (phases_in z s)) (set before id (attendance_of x)) other (attendance_of y) (each_set (IsHere (phases_in z s)) before id (attendance_of x) r.here (r.here id (attendance_of v) seat)) (λ _ b ph e. absurd (cc)));
+        participants = subst (CountsParticipants z s.homes) (sym seen) (λ b below. let was = r.participants b below in let e = held (λ q. q.participants) (slot_of (Bar b)) in
+            let first = total_set (takes_part b) before id (attendance_of v) (attendance_of x) seat in let second = total_set (takes_part b) (set before id (attendance_of x)) other (attendance_of w) (attendance_of y) other_seat in
+            let none : takes_part b (attendance_of w) ≡ 0 = ap (λ (l : List (ℕ × ℕ)). one_if (phase_of l b)) free.1 in omega arith);
+        reached = subst (NoneIsBelow z phase s.homes) (sym seen) (λ b below. let was = r.reached b below in let e = held (λ q. q.phase) (slot_of (Bar b)) in omega arith);
+        suits = subst (CallsSuit means) (sym seen) (each_set (λ (u : Attendance C). JobSuits means (asks_at u.place) u.party) (set before id (attendance_of x)) other (attendance_of y)
+            (each_set (λ (u : Attendance C). JobSuits means (asks_at u.place) u.party) before id (attendance_of x) r.suits (subst (λ (q : Place). JobSuits means (asks_at q) (party_of x)) (sym idle_is) tt)) tt);
+        client = subst (λ (q : List (PartyView C) × List ℕ). means.holds (drop (client_base z) s.words) q.0 q.1) (λ i. (parties i, sym stay i))
+            (law (drop (client_base z) s.words) (map party_of s.views) (phases_in z s) r.client
+            (record { at = at_map party_of s.views id v at; own = (p, own); apart = apart; there = at_map party_of s.views other w there; free = free.1; few = few_views means z phase count s r; barriers = r.barriers }));
       }
 
   -- once the seat with the number 0 has taken over every number that it drew, no other view has one
-  pub others_numberless : (s : WaitState C) → Rule holds z phase count s → (id : ℕ) (v : WaitView C) → get_elem? s.views id ≡ maybe.some v → v.own ≡ Some 0 → length v.taken ≡ v.drawn
+  pub others_numberless : (s : WaitState C) → Rule means z phase count s → (id : ℕ) (v : WaitView C) → get_elem? s.views id ≡ maybe.some v → v.own ≡ Some 0 → length v.taken ≡ v.drawn
       → (k : ℕ) (u : WaitView C) → (k ≡ id → ⊥) → get_elem? s.views k ≡ maybe.some u → u.own ≡ None
   others_numberless s r id v at own all k u apart there = by_number u.own refl
     where
@@ -210,12 +244,12 @@ module _ {C : Type 0} (holds : List ℕ → List (PartyView C) → List ℕ → 
           let other : one_if u.own ≡ 1 = ap one_if e in absurd (omega arith)
 
   -- the same, of what the client sees
-  pub others_left : (s : WaitState C) → Rule holds z phase count s → (id : ℕ) (v : WaitView C) → get_elem? s.views id ≡ maybe.some v → v.own ≡ Some 0 → length v.taken ≡ v.drawn
+  pub others_left : (s : WaitState C) → Rule means z phase count s → (id : ℕ) (v : WaitView C) → get_elem? s.views id ≡ maybe.some v → v.own ≡ Some 0 → length v.taken ≡ v.drawn
       → (k : ℕ) (u : PartyView C) → (k ≡ id → ⊥) → get_elem? (map party_of s.views) k ≡ maybe.some u → u.proc ≡ None
   others_left s r id v at own all k u apart there = let w = from_seen party_of s.views k u there in sym (ap (λ (x : PartyView C). x.proc) w.2) ∙ others_numberless s r id v at own all k w.0 apart w.1
 
   -- nor is in a call, attached to a barrier or elected by one
-  pub alone_at_last : (s : WaitState C) → Rule holds z phase count s → LastHoldsAlone s
+  pub alone_at_last : (s : WaitState C) → Rule means z phase count s → LastHoldsAlone s
   alone_at_last s r i j v u apart at there own all =
       let none = others_numberless s r i v at own all j u apart there in
       let free = r.left j (party_of u) (at_map party_of s.views j u there) none in

@@ -8,7 +8,7 @@ use Rattle.wait_core.specs.declared.view.Frame.TheVariants.{Rousing}
 use Rattle.wait_core.specs.declared.view.Kept.{Kept}
 use Rattle.wait_core.specs.declared.view.Size.{Size}
 use Rattle.seat_roster.specs.Roster.{times}
-use Rattle.wait_core.specs.Words.{client_base}
+use Rattle.wait_core.specs.Words.{client_base, slots_in}
 use Rattle.wait_core.specs.Lists.{is_listed, is_empty, rest_of, without, precedes}
 use Rattle.wait_core.specs.Jobs.{rouses, rouses_on}
 use Rattle.wait_core.specs.Machine.{Place}
@@ -81,7 +81,7 @@ rebroadcast_goes p q c (x ∷ rest) ne once alone there = dite (ℕ_discrete x q
 
 -- TURNS. A turn of another, or of the seat of q where it has no list in hand
 module _ (z : Size) (words : List ℕ) (homes : Homes) (seats : List Stance) (wide : client_base z ≤ length words) (flags : SpinsAreFlags z words) (hands : Hands z words homes seats) (alone : Alone seats)
-    (listed : TargetsAreListed (z.cvs + z.bars) homes seats) (id : ℕ) (v : Stance) (at : get_elem? seats id ≡ maybe.some v) (after : Homes) (i x : ℕ) (w : Stance) (p q c : ℕ) where
+    (listed : TargetsAreListed (slots_in z) homes seats) (id : ℕ) (v : Stance) (at : get_elem? seats id ≡ maybe.some v) (after : Homes) (i x : ℕ) (w : Stance) (p q c : ℕ) where
   -- p leaves the list, by a step of its own or of one who popped it
   pub record LeavesList : Type 0 where
     pub was : 1 ≤ times_on p c homes seats
@@ -95,7 +95,7 @@ module _ (z : Size) (words : List ℕ) (homes : Homes) (seats : List Stance) (wi
   unmoved stay hand there = inr (subst (λ (h : Homes). 1 ≤ order_on p q c h (set seats id w)) (sym stay) (let a = amount_same homes seats id v w at (precedes p q) refl c hand in omega arith))
 
   -- the list of c goes home
-  sent : (o : ℕ) (found : List ℕ) (k : Kept) → c < z.cvs + z.bars → v.own ≡ Some o → v.hand ≡ in_hand c found → after ≡ set homes c (maybe.some k) → w.hand ≡ None → 1 ≤ order_on p q c homes seats
+  sent : (o : ℕ) (found : List ℕ) (k : Kept) → c < slots_in z → v.own ≡ Some o → v.hand ≡ in_hand c found → after ≡ set homes c (maybe.some k) → w.hand ≡ None → 1 ≤ order_on p q c homes seats
       → (times p found ≤ 1 → times o found ≤ is_just c v.belongs → 1 ≤ precedes p q found → ((times p k.list.items ≡ 0) × LeftBy p w) ⊎ (1 ≤ precedes p q k.list.items)) → w.own ≡ v.own → Follows
   sent o found k inside own has goes free there f still =
       let out = home_out z words homes seats wide flags hands id c v found at inside has in let one = one_hand z words homes seats wide flags hands c inside in
@@ -118,7 +118,7 @@ module _ (z : Size) (words : List ℕ) (homes : Homes) (seats : List Stance) (wi
       (let a = amount_out homes seats id v w at (precedes p q) refl c d k home free (ap (λ (u : Stance). u.hand) is) in omega arith))
   order_turn apart (frees o d found k few inside own at_d to has nobody goes sends) = λ there. dite (ℕ_discrete c d)
       (λ (same : c ≡ d). let s : Sends o c found k.list.items v w = subst (λ (j : ℕ). Sends o j found k.list.items v w) (sym same) sends in
-      sent o found k (subst (λ (j : ℕ). j < z.cvs + z.bars) (sym same) inside) own (subst (λ (j : ℕ). v.hand ≡ in_hand j found) (sym same) has) (subst (λ (j : ℕ). after ≡ set homes j (maybe.some k)) (sym same) goes)
+      sent o found k (subst (λ (j : ℕ). j < slots_in z) (sym same) inside) own (subst (λ (j : ℕ). v.hand ≡ in_hand j found) (sym same) has) (subst (λ (j : ℕ). after ≡ set homes j (maybe.some k)) (sym same) goes)
       (sends_hand o d found k.list.items v w sends) there (λ once mine behind. sends_order p q o c found k.list.items v w own (λ (e : o ≡ q). let none = apart (own ∙ ap Some e) in absurd (cc)) once mine behind s)
       (sends_listed o d found k.list.items v w sends).own)
       (λ (ne : c ≢ d). inr (subst (λ (h : Homes). 1 ≤ order_on p q c h (set seats id w)) (sym goes)

@@ -62,6 +62,6 @@ module _ (z : Size) (words : List ℕ) (seats : List Standing) (alone : (p : ℕ
   shutdown_kept (Shstore b) found ok e goes p below = λ come shut. let sum = after_any seats alone id o v w at own still (stops p) in let low = any_at seats alone id o v w at own still (stops p) in
       let first : nat_lt 0 (p + 1) ≡ true = grind (arith, nat_tests) in
       let one : bit (stops p (top w.place)) ≡ 1 = ap (λ (x : Place). bit (stops p (top x))) goes ∙ ap bit first in omega arith
-  shutdown_kept (Take x b) found ok e goes p below = apart (spin_at z (slot_of z x)) 1 p below (λ x. omega arith) (λ x. omega arith) (never e.shutdown) (never (e.stopping p below))
-  shutdown_kept (Spin x) found ok e goes p below = unread (spin_at z (slot_of z x)) p below (never e.shutdown) (never (e.stopping p below))
-  shutdown_kept (Free x after) found ok e goes p below = apart (spin_at z (slot_of z x)) 0 p below (λ x. omega arith) (λ x. omega arith) (never e.shutdown) (never (e.stopping p below))
+  shutdown_kept (Take x b) found ok e goes p below = apart (spin_at z (slot_of x)) 1 p below (λ x. omega arith) (λ x. omega arith) (never e.shutdown) (never (e.stopping p below))
+  shutdown_kept (Spin x) found ok e goes p below = unread (spin_at z (slot_of x)) p below (never e.shutdown) (never (e.stopping p below))
+  shutdown_kept (Free x after) found ok e goes p below = apart (spin_at z (slot_of x)) 0 p below (λ x. omega arith) (λ x. omega arith) (never e.shutdown) (never (e.stopping p below))

@@ -11,7 +11,7 @@ use Rattle.seat_roster.specs.Totals.{total}
 use Rattle.seat_roster.specs.Roster.{times}
 use Rattle.seat_roster.proofs.Totals.{total_set, total_snoc}
 use Rattle.seat_roster.proofs.Numbers.{times_append}
-use Rattle.wait_core.specs.Words.{set_at, spin_at, client_base}
+use Rattle.wait_core.specs.Words.{set_at, spin_at, client_base, slots_in}
 use Rattle.wait_core.specs.Stances.{Stance, Homes, is_just, both_are, amount_by, times_on, heeds_for, has_popped}
 use Rattle.wait_core.specs.SignalIsKept.{SignalReaches, SignalIsKept}
 use Rattle.wait_core.proofs.Lists.{head_else, times_joined, times_without}
@@ -103,12 +103,12 @@ still_latches z words i x wide (shuts e) q below = inl (get_or-set_other words i
 still_latches z words i x wide (client most) q below = inl (get_or-set_other words i (set_at q) x 0 (λ is. omega arith))
 
 module _ (z : Size) (words : List ℕ) (homes : Homes) (seats : List Stance) (wide : client_base z ≤ length words) (flags : SpinsAreFlags z words) (hands : Hands z words homes seats) (alone : Alone seats)
-    (was : SignalIsKept z.procs (z.cvs + z.bars) words homes seats) (id : ℕ) (v : Stance) (at : get_elem? seats id ≡ maybe.some v) (after : Homes) (i x : ℕ) (w : Stance) where
+    (was : SignalIsKept z.procs (slots_in z) words homes seats) (id : ℕ) (v : Stance) (at : get_elem? seats id ≡ maybe.some v) (after : Homes) (i x : ℕ) (w : Stance) where
   abbrev Reaches : ℕ → ℕ → Homes → Type 0
   Reaches p y h = SignalReaches p y (set words i x) h (set seats id w)
 
   -- as many are listed and heed, and no latch is cleared but where somebody popped its backend
-  quiet : (p y : ℕ) → p < z.procs → y < z.cvs + z.bars → (h : Homes) → times_on p y h (set seats id w) ≡ times_on p y homes seats → w.own ≡ v.own → w.heeds ≡ v.heeds
+  quiet : (p y : ℕ) → p < z.procs → y < slots_in z → (h : Homes) → times_on p y h (set seats id w) ≡ times_on p y homes seats → w.own ≡ v.own → w.heeds ≡ v.heeds
       → ((get_or (set words i x) (set_at p) 0 ≡ get_or words (set_at p) 0) × (is_just p w.pops ≡ is_just p v.pops)) ⊎ (get_or (set words i x) (set_at p) 0 ≡ 1) → Reaches p y h
   quiet p y few below h times own still latch heeds off = ⊎_elim
       (λ (t : (get_or (set words i x) (set_at p) 0 ≡ get_or words (set_at p) 0) × (is_just p w.pops ≡ is_just p v.pops)). let same = t.0 in let pops = t.1 in
@@ -119,11 +119,11 @@ module _ (z : Size) (words : List ℕ) (homes : Homes) (seats : List Stance) (wi
   -- nothing is listed or heeded anew
   unmoved : after ≡ homes → w.hand ≡ v.hand → w.own ≡ v.own → w.heeds ≡ v.heeds
       → ((p : ℕ) → p < z.procs → ((get_or (set words i x) (set_at p) 0 ≡ get_or words (set_at p) 0) × (is_just p w.pops ≡ is_just p v.pops)) ⊎ (get_or (set words i x) (set_at p) 0 ≡ 1))
-      → SignalIsKept z.procs (z.cvs + z.bars) (set words i x) after (set seats id w)
+      → SignalIsKept z.procs (slots_in z) (set words i x) after (set seats id w)
   unmoved stay hand own still latch p y few below = subst (λ (h : Homes). Reaches p y h) (sym stay) (quiet p y few below homes (amount_same homes seats id v w at (times p) refl y hand) own still (latch p few))
 
   -- the own latch is cleared, and the seat heeds nothing
-  cleared : (o : ℕ) → o < z.procs → v.own ≡ Some o → i ≡ set_at o → after ≡ homes → w ≡ record v { heeds = None } → SignalIsKept z.procs (z.cvs + z.bars) (set words i x) after (set seats id w)
+  cleared : (o : ℕ) → o < z.procs → v.own ≡ Some o → i ≡ set_at o → after ≡ homes → w ≡ record v { heeds = None } → SignalIsKept z.procs (slots_in z) (set words i x) after (set seats id w)
   cleared o less own at_o stay is p y few below = subst (λ (h : Homes). Reaches p y h) (sym stay) (dite (ℕ_discrete o p)
       (λ (same : o ≡ p). λ heeds off. let none : total (heeds_for p y) (set seats id w) ≡ is_just y w.heeds = ap (λ (q : ℕ). total (heeds_for q y) (set seats id w)) (sym same) ∙ own_after seats alone id o v w at own (ap own_of is) heeds_of y in
       let no = ap (is_just y) (ap heeds_of is) in absurd (omega arith))
@@ -132,13 +132,13 @@ module _ (z : Size) (words : List ℕ) (homes : Homes) (seats : List Stance) (wi
       let before = was p y few below (omega arith) (omega arith) in omega arith))
 
   -- a list leaves its slot
-  taken : (c : ℕ) (k : Kept) → i ≡ spin_at z c → get_elem? homes c ≡ maybe.some (maybe.some k) → after ≡ set homes c maybe.none → v.hand ≡ None → w ≡ record v { hand = in_hand c k.list.items } → SignalIsKept z.procs (z.cvs + z.bars) (set words i x) after (set seats id w)
+  taken : (c : ℕ) (k : Kept) → i ≡ spin_at z c → get_elem? homes c ≡ maybe.some (maybe.some k) → after ≡ set homes c maybe.none → v.hand ≡ None → w ≡ record v { hand = in_hand c k.list.items } → SignalIsKept z.procs (slots_in z) (set words i x) after (set seats id w)
   taken c k at_c home goes free is p y few below = subst (λ (h : Homes). Reaches p y h) (sym goes)
       (quiet p y few below (set homes c maybe.none) (amount_out homes seats id v w at (times p) refl y c k home free (ap (λ (u : Stance). u.hand) is)) (ap own_of is) (ap heeds_of is)
       (inl (get_or-set_other words i (set_at p) x 0 (λ e. omega arith), ap (is_just p) (ap pops_of is))))
 
   -- it goes home
-  module _ (o c : ℕ) (found : List ℕ) (k : Kept) (inside : c < z.cvs + z.bars) (at_c : i ≡ spin_at z c) (own : v.own ≡ Some o) (has : v.hand ≡ in_hand c found) (nobody : v.pops ≡ None) (free : w.hand ≡ None) (facts : SendsSignals o c found k.list.items v w) where
+  module _ (o c : ℕ) (found : List ℕ) (k : Kept) (inside : c < slots_in z) (at_c : i ≡ spin_at z c) (own : v.own ≡ Some o) (has : v.hand ≡ in_hand c found) (nobody : v.pops ≡ None) (free : w.hand ≡ None) (facts : SendsSignals o c found k.list.items v w) where
     mine_before : (p y : ℕ) → o ≡ p → total (heeds_for p y) seats ≡ is_just y v.heeds
     mine_before p y is = ap (λ (q : ℕ). total (heeds_for q y) seats) (sym is) ∙ own_counts seats alone id o v w at own facts.own heeds_of y
 
@@ -160,7 +160,7 @@ module _ (z : Size) (words : List ℕ) (homes : Homes) (seats : List Stance) (wi
         (λ (ne : o ≢ p). let a = else_after seats alone id o v w at own facts.own heeds_of c p ne in let l = facts.popped p ne in dite (ℕ_discrete (times p found) 0)
         (λ (none : times p found ≡ 0). let old = was p c few inside (omega arith) (omega arith) in omega arith) (λ (some : times p found ≢ 0). omega arith))
 
-    sent_apart : (p y : ℕ) → p < z.procs → y < z.cvs + z.bars → y ≢ c → Reaches p y (set homes c (maybe.some k))
+    sent_apart : (p y : ℕ) → p < z.procs → y < slots_in z → y ≢ c → Reaches p y (set homes c (maybe.some k))
     sent_apart p y few below apart heeds off =
         let now = counted p few in let moved = amount_apart homes seats id v w at (times p) refl y c found (maybe.some k) has free apart in
         let less : total (heeds_for p y) (set seats id w) ≤ total (heeds_for p y) seats = dite (ℕ_discrete o p)
@@ -168,11 +168,11 @@ module _ (z : Size) (words : List ℕ) (homes : Homes) (seats : List Stance) (wi
         (λ (ne : o ≢ p). let a = else_after seats alone id o v w at own facts.own heeds_of y p ne in omega arith) in
         let old = was p y few below (omega arith) (omega arith) in omega arith
 
-    sent : after ≡ set homes c (maybe.some k) → SignalIsKept z.procs (z.cvs + z.bars) (set words i x) after (set seats id w)
+    sent : after ≡ set homes c (maybe.some k) → SignalIsKept z.procs (slots_in z) (set words i x) after (set seats id w)
     sent goes p y few below = subst (λ (h : Homes). Reaches p y h) (sym goes)
         (dite (ℕ_discrete y c) (λ (e : y ≡ c). subst (λ (j : ℕ). Reaches p j (set homes c (maybe.some k))) (sym e) (sent_here p few)) (λ (apart : y ≢ c). sent_apart p y few below apart))
 
-  pub signals_turn : Turn z words homes after i x v w → SignalIsKept z.procs (z.cvs + z.bars) (set words i x) after (set seats id w)
+  pub signals_turn : Turn z words homes after i x v w → SignalIsKept z.procs (slots_in z) (set words i x) after (set seats id w)
   signals_turn (stays still stay is) = unmoved stay (ap (λ (u : Stance). u.hand) is) (ap own_of is) (ap heeds_of is)
       (λ p few. ⊎_elim (λ same. inl (same, ap (is_just p) (ap pops_of is))) (λ one. inr one) (still_latches z words i x wide still p few))
   signals_turn (reaches q less at_q to stay popped is) = unmoved stay (ap (λ (u : Stance). u.hand) is) (ap own_of is) (ap heeds_of is)

@@ -10,6 +10,7 @@ use Rattle.wait_core.specs.declared.view.Frame.TheVariants.{Asleep}
 use Rattle.wait_core.specs.declared.view.PartyView.{PartyView}
 use Rattle.wait_core.specs.declared.view.Size.{Size}
 use Rattle.wait_core.specs.declared.view.WaitView.{WaitView}
+use Rattle.wait_core.specs.Meanings.{Meanings}
 use Rattle.wait_core.specs.Words.{set_at, may_at, shut_at}
 use Rattle.wait_core.specs.Machine.{WaitState, Place, top, bit}
 use Rattle.wait_core.specs.Seating.{numbers_of, standing_of}
@@ -35,12 +36,12 @@ sleeps_past_latch (Some (Asleep w)) h = refl
 sleeps_past_latch None h = h
 sleeps_past_latch (Some f) h = absurd (cc)
 
-module _ {C : Type 0} (holds : List ℕ → List (PartyView C) → List ℕ → Type 0) (z : Size) (phase count : ℕ) (s : WaitState C) (r : Rule holds z phase count s) (id p : ℕ) (v : WaitView C) (at : get_elem? s.views id ≡ maybe.some v) (own : v.own ≡ Some p) where
+module _ {C : Type 0} (means : Meanings C) (z : Size) (phase count : ℕ) (s : WaitState C) (r : Rule means z phase count s) (id p : ℕ) (v : WaitView C) (at : get_elem? s.views id ≡ maybe.some v) (own : v.own ≡ Some p) where
   counted : (f : Option Frame → Bool) → backend_count p f (map standing_of s.views) ≡ bit (f (top v.place))
   counted f = backend_is (map standing_of s.views) (alone z.procs (get_or s.words 0 0) s.views r.roster) id p (standing_of v) f (at_map standing_of s.views id v at) own
 
   below : p < z.procs
-  below = own_below holds z phase count s r id v p at own
+  below = own_below means z phase count s r id v p at own
 
   pub asleep_wakes : IsAsleep v → get_or s.words (set_at p) 0 ≡ 1 → LatchWakePending p s
   asleep_wakes asleep up = r.latches p below (let a = counted past_latch in let b : bit (past_latch (top v.place)) ≡ 1 = ap bit (sleeps_past_latch (top v.place) asleep) in omega arith) up

@@ -9,7 +9,7 @@ use Rattle.wait_core.specs.declared.view.Size.{Size}
 use Rattle.seat_roster.specs.Totals.{total}
 use Rattle.seat_roster.specs.Roster.{times}
 use Rattle.seat_roster.proofs.Totals.{total_set, total_snoc}
-use Rattle.wait_core.specs.Words.{client_base}
+use Rattle.wait_core.specs.Words.{client_base, slots_in}
 use Rattle.wait_core.specs.Stances.{Stance, Homes, is_just, both_are, amount_by, belongs_to}
 use Rattle.wait_core.specs.TargetsAreListed.{ListedWhereItBelongs, TargetsAreListed}
 use Rattle.wait_core.proofs.Lists.{head_here, times_last, times_joined, times_gone, times_left}
@@ -84,20 +84,20 @@ sends_listed p c found left v w (ends e here quiet is) = let now = ap (is_just c
 }
 
 module _ (z : Size) (words : List ℕ) (homes : Homes) (seats : List Stance) (wide : client_base z ≤ length words) (flags : SpinsAreFlags z words) (hands : Hands z words homes seats) (alone : Alone seats)
-    (was : TargetsAreListed (z.cvs + z.bars) homes seats) (id : ℕ) (v : Stance) (at : get_elem? seats id ≡ maybe.some v) (after : Homes) (i x : ℕ) (w : Stance) where
+    (was : TargetsAreListed (slots_in z) homes seats) (id : ℕ) (v : Stance) (at : get_elem? seats id ≡ maybe.some v) (after : Homes) (i x : ℕ) (w : Stance) where
   -- no list moves, and the seat belongs where it did
-  same : after ≡ homes → w.hand ≡ v.hand → w.own ≡ v.own → w.belongs ≡ v.belongs → TargetsAreListed (z.cvs + z.bars) after (set seats id w)
+  same : after ≡ homes → w.hand ≡ v.hand → w.own ≡ v.own → w.belongs ≡ v.belongs → TargetsAreListed (slots_in z) after (set seats id w)
   same stay hand own still p y below = subst (λ (o : Homes). ListedWhereItBelongs p y o (set seats id w)) (sym stay)
       (let times = amount_same homes seats id v w at (times p) refl y hand in let sum = total_set (belongs_to p y) seats id v w at in let mine : belongs_to p y w ≡ belongs_to p y v = λ j. both_are p y (own j) (still j) in let h = was p y below in omega arith)
 
   -- that of c leaves its slot
-  taken : (c : ℕ) (k : Kept) → get_elem? homes c ≡ maybe.some (maybe.some k) → after ≡ set homes c maybe.none → v.hand ≡ None → w ≡ record v { hand = in_hand c k.list.items } → TargetsAreListed (z.cvs + z.bars) after (set seats id w)
+  taken : (c : ℕ) (k : Kept) → get_elem? homes c ≡ maybe.some (maybe.some k) → after ≡ set homes c maybe.none → v.hand ≡ None → w ≡ record v { hand = in_hand c k.list.items } → TargetsAreListed (slots_in z) after (set seats id w)
   taken c k home goes free is p y below = subst (λ (o : Homes). ListedWhereItBelongs p y o (set seats id w)) (sym goes)
       (let times = amount_out homes seats id v w at (times p) refl y c k home free (ap (λ (u : Stance). u.hand) is) in let sum = total_set (belongs_to p y) seats id v w at in
       let mine : belongs_to p y w ≡ belongs_to p y v = λ j. both_are p y (own_of (is j)) (belongs_of (is j)) in let h = was p y below in omega arith)
 
   -- it goes home
-  module _ (o c : ℕ) (found : List ℕ) (k : Kept) (inside : c < z.cvs + z.bars) (own : v.own ≡ Some o) (has : v.hand ≡ in_hand c found) (free : w.hand ≡ None) (facts : SendsListed o c found k.list.items v w) where
+  module _ (o c : ℕ) (found : List ℕ) (k : Kept) (inside : c < slots_in z) (own : v.own ≡ Some o) (has : v.hand ≡ in_hand c found) (free : w.hand ≡ None) (facts : SendsListed o c found k.list.items v w) where
     out : get_elem? homes c ≡ maybe.some maybe.none
     out = home_out z words homes seats wide flags hands id c v found at inside has
 
@@ -115,16 +115,16 @@ module _ (z : Size) (words : List ℕ) (homes : Homes) (seats : List Stance) (wi
         let m : times p found ≤ is_just c v.belongs → times p k.list.items ≤ is_just c w.belongs = subst (λ (q : ℕ). times q found ≤ is_just c v.belongs → times q k.list.items ≤ is_just c w.belongs) is facts.mine in let n = m (omega arith) in omega arith)
         (λ (ne : o ≢ p). let a = else_after seats alone id o v w at own facts.own belongs_of c p ne in let l = facts.others p ne in omega arith)
 
-    sent_apart : (p y : ℕ) → y < z.cvs + z.bars → y ≢ c → ListedWhereItBelongs p y (set homes c (maybe.some k)) (set seats id w)
+    sent_apart : (p y : ℕ) → y < slots_in z → y ≢ c → ListedWhereItBelongs p y (set homes c (maybe.some k)) (set seats id w)
     sent_apart p y below apart = let moved = amount_apart homes seats id v w at (times p) refl y c found (maybe.some k) has free apart in let h = was p y below in dite (ℕ_discrete o p)
         (λ (is : o ≡ p). let e = facts.elsewhere y apart in let a = mine_before p y is in let b = mine_after p y is in omega arith)
         (λ (ne : o ≢ p). let a = else_after seats alone id o v w at own facts.own belongs_of y p ne in omega arith)
 
-    sent : after ≡ set homes c (maybe.some k) → TargetsAreListed (z.cvs + z.bars) after (set seats id w)
+    sent : after ≡ set homes c (maybe.some k) → TargetsAreListed (slots_in z) after (set seats id w)
     sent goes p y below = subst (λ (h : Homes). ListedWhereItBelongs p y h (set seats id w)) (sym goes)
         (dite (ℕ_discrete y c) (λ (e : y ≡ c). subst (λ (j : ℕ). ListedWhereItBelongs p j (set homes c (maybe.some k)) (set seats id w)) (sym e) (sent_here p)) (λ (apart : y ≢ c). sent_apart p y below apart))
 
-  pub listed_turn : Turn z words homes after i x v w → TargetsAreListed (z.cvs + z.bars) after (set seats id w)
+  pub listed_turn : Turn z words homes after i x v w → TargetsAreListed (slots_in z) after (set seats id w)
   listed_turn (stays still stay is) = same stay (ap (λ (u : Stance). u.hand) is) (ap own_of is) (ap belongs_of is)
   listed_turn (reaches q less at_q to stay popped is) = same stay (ap (λ (u : Stance). u.hand) is) (ap own_of is) (ap belongs_of is)
   listed_turn (resets p less own at_p to stay is) = same stay (ap (λ (u : Stance). u.hand) is) (ap own_of is) (ap belongs_of is)

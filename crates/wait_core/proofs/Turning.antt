@@ -5,7 +5,7 @@ use mathlib.Core.Option as maybe
 use lib.ListN.{get_elem?}
 use Rattle.atomic_table.specs.Table.{keeps, takes as takes_out, homes_after}
 use Rattle.wait_core.specs.declared.step.Spot.{Spot}
-use Rattle.wait_core.specs.declared.step.Spot.TheVariants.{Cv}
+use Rattle.wait_core.specs.declared.step.Spot.TheVariants.{Cv, Bar}
 use Rattle.wait_core.specs.declared.step.Until.{Until}
 use Rattle.wait_core.specs.declared.step.Until.TheVariants.{Latch, LatchOrShutdown}
 use Rattle.wait_core.specs.declared.step.Call.{Call}
@@ -20,12 +20,13 @@ use Rattle.wait_core.specs.declared.view.Kept.{Kept}
 use Rattle.wait_core.specs.declared.view.Record.{Record}
 use Rattle.wait_core.specs.declared.view.Size.{Size}
 use Rattle.wait_core.specs.declared.view.WaitView.{WaitView}
-use Rattle.wait_core.specs.Words.{set_at, may_at, byte_at, shut_at, slot_of, spin_at}
+use Rattle.wait_core.specs.Words.{most_conditions, set_at, may_at, byte_at, shut_at, slot_of, spin_at, slots_in}
 use Rattle.wait_core.specs.Lists.{is_listed}
-use Rattle.wait_core.specs.Jobs.{condition_of, spot_of, left_list, target_after, heeds_after, resumed, goes_on}
-use Rattle.wait_core.specs.Machine.{Place, top, outer, number_of, word_of, becomes, begun, reloaded, marked, woken, looked, drained, reset, entered, as_kept, taken, spun, place_then, target_then, heeds_then, home_of, home_in, slot_number, act_of, carried, SetsLatchOf, WaitsForLatch, IsInside, MayBegin, BeginsLoad, takes_first, spot_for, MayReload, MayMark, MayWake, MayLook, MayDrain, MayReset, MayTake, MaySpin, MayFree, IsSpot, Permits, next_with}
+use Rattle.wait_core.specs.Jobs.{spot_of, left_list, left_record, target_after, heeds_after, resumed, goes_on}
+use Rattle.wait_core.specs.Machine.{Place, top, outer, number_of, word_of, becomes, begun, reloaded, marked, woken, looked, drained, reset, entered, as_kept, taken, spun, place_then, target_then, heeds_then, home_of, home_in, slot_number, act_of, carried, SetsLatchOf, WaitsForLatch, IsInside, MayBegin, BeginsLoad, takes_first, MayReload, MayMark, MayWake, MayLook, MayDrain, MayReset, MayTake, MaySpin, MayFree, Permits, next_with}
 use Rattle.wait_core.specs.Fits.{BehindSet, BehindWait, BehindCancel, JobFits, Fits}
 use Rattle.wait_core.specs.Stances.{Stance, Homes, hand_at, belongs_at, heeds_at, pops_at, stance_of}
+use Rattle.wait_core.proofs.Effects.{spot_inside}
 use Rattle.wait_core.proofs.Lists.{listed_there, not_listed}
 use Rattle.wait_core.proofs.Turns.{reads, latches, marks, wakes, shuts, Sends, returns, stays_listed, joins, leaves, pops, signs, ends, Turn, stays, reaches, resets, takes, frees, idle}
 
@@ -134,7 +135,7 @@ module _ (own t : Option ℕ) (h : Bool) where
   spun_same b x p ok = absurd ok
 
   -- the frame of the first step of a call that takes a spin word
-  abbrev EntersAt : Spot → Place → Place → Type 0
+  abbrev pub EntersAt : Spot → Place → Place → Type 0
   EntersAt x p after = (j : Job) × (q : Place) × (after ≡ Taking j ∷ q) × (spot_of j ≡ x) × (at_place (Taking j ∷ q) ≡ at_place p)
 
 -- a sleep reset its latch
@@ -142,7 +143,7 @@ reset_heeds : (own : Option ℕ) (h : Bool) (c : ℕ) (p : Place) → stance own
 reset_heeds own h c p = λ i. record (stance own (Some c) h (Resetting c ∷ p)) { heeds = no_heeds h i }
 
 -- a call begins by taking a spin word
-enters : (own t : Option ℕ) (h : Bool) (c : Call) (x : Spot) (p : Place) → spot_for (takes_first t c) ≡ Some x → MayBegin c p → EntersAt own t h x p (entered t c p)
+pub enters : (own t : Option ℕ) (h : Bool) (c : Call) (x : Spot) (p : Place) → takes_first t c ≡ Some x → MayBegin c p → EntersAt own t h x p (entered t c p)
 enters own (Some s) h call.Cancel x [] at may = (job.Cancel s, [], refl, (cc), refl)
 enters own (Some s) h call.Cancel x (f ∷ p) at may = absurd (outside call.Cancel (λ q h. h) (λ h. h) f may)
 enters own None h call.Cancel x p at may = absurd (cc)
@@ -152,7 +153,7 @@ enters own None h (call.Prepare c) x [] at may = (job.Prepare c, [], refl, (cc),
 enters own None h (call.Prepare c) x (f ∷ p) at may = absurd (outside (call.Prepare c) (λ q h. h) (λ h. h) f may)
 enters own (Some s) h (call.Sleep c) x [] at may = (job.Cancel s, Preparing c ∷ [], refl, by_target (eqb s c) at, refl)
   where
-    by_target : (b : Bool) → spot_for (cond b None (Some s)) ≡ Some x → Cv s ≡ x
+    by_target : (b : Bool) → cond b None (Some (Cv s)) ≡ Some x → Cv s ≡ x
     by_target true e = absurd (cc)
     by_target false e = (cc)
 enters own (Some s) h (call.Sleep c) x (f ∷ p) at may = absurd (outside (call.Sleep c) (λ q h. h) (λ h. h) f may)
@@ -164,6 +165,12 @@ enters own t h (call.Signal c) x (f ∷ p) at may = absurd (outside (call.Signal
 enters own (Some s) h (call.Broadcast c) x [] at may = (job.Cancel s, Broadcasting c ∷ [], refl, (cc), refl)
 enters own None h (call.Broadcast c) x [] at may = (job.Broadcast c, [], refl, (cc), refl)
 enters own t h (call.Broadcast c) x (f ∷ p) at may = absurd (outside (call.Broadcast c) (λ q h. h) (λ h. h) f may)
+enters own (Some s) h (call.Attach b) x [] at may = (job.Attach b, [], refl, (cc), refl)
+enters own None h (call.Attach b) x [] at may = (job.Attach b, [], refl, (cc), refl)
+enters own t h (call.Attach b) x (f ∷ p) at may = absurd (outside (call.Attach b) (λ q h. h) (λ h. h) f may)
+enters own (Some s) h (call.Detach b) x [] at may = (job.Detach b, [], refl, (cc), refl)
+enters own None h (call.Detach b) x [] at may = (job.Detach b, [], refl, (cc), refl)
+enters own t h (call.Detach b) x (f ∷ p) at may = absurd (outside (call.Detach b) (λ q h. h) (λ h. h) f may)
 enters own (Some s) h c x p at may = absurd (cc)
 enters own None h c x p at may = absurd (cc)
 
@@ -176,7 +183,7 @@ cancel_ended cvs own t h p fits = absurd fits
 
 module _ (cvs o : ℕ) (h : Bool) (found : Record) where
   abbrev SendsAt : Job → List ℕ → Option ℕ → Place → Type 0
-  SendsAt j list t p = Sends o (condition_of j) list (left_list j o list) (stance (Some o) t h (Holding j list found ∷ p)) (stance (Some o) (target_after j t) (heeds_after j o list h) (goes_on j o list p))
+  SendsAt j list t p = Sends o (slot_of (spot_of j)) list (left_list j o list) (stance (Some o) t h (Holding j list found ∷ p)) (stance (Some o) (target_after j t) (heeds_after j o list h) (goes_on j o list p))
 
   cancel_sends : (c : ℕ) (list : List ℕ) (t : Option ℕ) (p : Place) → BehindCancel cvs t p → SendsAt (job.Cancel c) list (Some c) p
   cancel_sends c list t p fits = leaves refl refl (cancel_ended cvs (Some o) t h p fits)
@@ -219,9 +226,11 @@ module _ (cvs o : ℕ) (h : Bool) (found : Record) where
   freed_sends (job.Signal c) list t p fits = alone_at (job.Signal c) list t t p refl fits.1 (signal_sends c list t)
   freed_sends (job.Broadcast c) list t p fits = alone_at (job.Broadcast c) list t None p fits.1 fits.2 (broadcast_sends c list)
   freed_sends (job.Rebroadcast c) list t p fits = alone_at (job.Rebroadcast c) list t None p fits.1 fits.2 (rebroadcast_sends c list)
+  freed_sends (job.Attach b) list t p fits = alone_at (job.Attach b) list t t p refl fits (returns (belongs_at t []) refl (inl refl) refl)
+  freed_sends (job.Detach b) list t p fits = alone_at (job.Detach b) list t t p refl fits (returns (belongs_at t []) refl (inl refl) refl)
 
 -- THE STEPS
-module _ (z : Size) (words : List ℕ) (homes : Homes) (o : ℕ) (below : o < z.procs) where
+module _ (z : Size) (most : z.cvs ≤ most_conditions) (words : List ℕ) (homes : Homes) (o : ℕ) (below : o < z.procs) where
   abbrev found_at : ℕ → ℕ
   found_at i = get_or words i 0
 
@@ -268,53 +277,53 @@ module _ (z : Size) (words : List ℕ) (homes : Homes) (o : ℕ) (below : o < z.
     reset_turned p ok fits = absurd ok
 
     -- the spin word of a job is taken
-    take_turned : (out : List (ℕ × Kept)) (j : Job) (p : Place) (b : Bool) → condition_of j < z.cvs + z.bars → (b ≡ true → found_at (spin_at z (condition_of j)) ≡ 0) → (b ≡ false → found_at (spin_at z (condition_of j)) ≡ 1)
-        → (b ≡ true → get_elem? homes (condition_of j) ≡ maybe.some (maybe.some (home_in homes (condition_of j))))
-        → Turn z words homes (homes_after homes out (cond b (takes_out (condition_of j) (home_in homes (condition_of j))) keeps)) (spin_at z (condition_of j)) 1 (at (Taking j ∷ p)) (at (taken b (home_in homes (condition_of j)) (Taking j ∷ p)))
-    take_turned out j p true inside none one home = takes (condition_of j) (home_in homes (condition_of j)) inside refl refl (none refl) (home refl) refl refl refl
+    take_turned : (out : List (ℕ × Kept)) (j : Job) (p : Place) (b : Bool) → slot_of (spot_of j) < slots_in z → (b ≡ true → found_at (spin_at z (slot_of (spot_of j))) ≡ 0) → (b ≡ false → found_at (spin_at z (slot_of (spot_of j))) ≡ 1)
+        → (b ≡ true → get_elem? homes (slot_of (spot_of j)) ≡ maybe.some (maybe.some (home_in homes (slot_of (spot_of j)))))
+        → Turn z words homes (homes_after homes out (cond b (takes_out (slot_of (spot_of j)) (home_in homes (slot_of (spot_of j)))) keeps)) (spin_at z (slot_of (spot_of j))) 1 (at (Taking j ∷ p)) (at (taken b (home_in homes (slot_of (spot_of j))) (Taking j ∷ p)))
+    take_turned out j p true inside none one home = takes (slot_of (spot_of j)) (home_in homes (slot_of (spot_of j))) inside refl refl (none refl) (home refl) refl refl refl
     take_turned out j p false inside none one home = stays (reads (sym (one refl))) refl refl
 
     -- it is freed
-    free_turned : (j : Job) (list : List ℕ) (found : Record) (p : Place) → condition_of j < z.cvs + z.bars → JobFits z.cvs t j p
-        → Turn z words homes (set homes (condition_of j) (maybe.some (as_kept (left_list j o list) found))) (spin_at z (condition_of j)) 0 (at (Holding j list found ∷ p)) (stance (Some o) (target_after j t) (heeds_after j o list h) (goes_on j o list p))
-    free_turned j list found p inside fits = frees o (condition_of j) list (as_kept (left_list j o list) found) below inside refl refl refl refl refl refl (freed_sends z.cvs o h found j list t p fits)
+    free_turned : (j : Job) (list : List ℕ) (found : Record) (p : Place) → slot_of (spot_of j) < slots_in z → JobFits z.cvs t j p
+        → Turn z words homes (set homes (slot_of (spot_of j)) (maybe.some (as_kept (left_list j o list) (left_record j found)))) (spin_at z (slot_of (spot_of j))) 0 (at (Holding j list found ∷ p)) (stance (Some o) (target_after j t) (heeds_after j o list h) (goes_on j o list p))
+    free_turned j list found p inside fits = frees o (slot_of (spot_of j)) list (as_kept (left_list j o list) (left_record j found)) below inside refl refl refl refl refl refl (freed_sends z.cvs o h found j list t p fits)
 
   -- what the step makes of the word, the lists and the seat's stance
   abbrev pub TurnsAt : WaitStep → Option ℕ → Bool → Place → Type 0
-  TurnsAt k t h p = let n = found_at (word_of z o k) in let found = home_in homes (slot_number z k) in
-      Turn z words homes (homes_after homes (carried z k o p) (act_of z k n found)) (word_of z o k) (becomes k n) (stance (Some o) t h p) (stance (Some o) (target_then k t) (heeds_then k o p h) (place_then z k n found record { own = o; target = t; place = p }))
+  TurnsAt k t h p = let n = found_at (word_of z o k) in let found = home_in homes (slot_number k) in
+      Turn z words homes (homes_after homes (carried k o p) (act_of k n found)) (word_of z o k) (becomes k n) (stance (Some o) t h p) (stance (Some o) (target_then k t) (heeds_then k o p h) (place_then z k n found record { own = o; target = t; place = p }))
 
   -- what lies at home where a spin word is 0
   abbrev pub AtHome : Type 0
-  AtHome = (x : ℕ) → x < z.cvs + z.bars → found_at (spin_at z x) ≡ 0 → (k : Kept) × (get_elem? homes x ≡ maybe.some (maybe.some k))
+  AtHome = (x : ℕ) → x < slots_in z → found_at (spin_at z x) ≡ 0 → (k : Kept) × (get_elem? homes x ≡ maybe.some (maybe.some k))
 
   module _ (home : AtHome) (t : Option ℕ) (h : Bool) where
     -- a spin word of the table is taken
-    taken_turned : (x : Spot) (begins : Option Call) (j : Job) (p q : Place) → IsSpot z x → spot_of j ≡ x → found_at (spin_at z (slot_of z x)) ≤ 1 → stance (Some o) t h (Taking j ∷ q) ≡ stance (Some o) t h p
-        → let n = found_at (spin_at z (slot_of z x)) in let found = home_in homes (slot_of z x) in
-        Turn z words homes (homes_after homes (carried z (Take x begins) o p) (act_of z (Take x begins) n found)) (spin_at z (slot_of z x)) 1 (stance (Some o) t h p) (stance (Some o) t h (taken (eqb n 0) found (Taking j ∷ q)))
-    taken_turned x begins j p q inside is few same = subst (λ (u : Stance). Turn z words homes (after_take x) (spin_at z (slot_of z x)) 1 u (stance (Some o) t h (taken (eqb (found_at (spin_at z (slot_of z x))) 0) (home_in homes (slot_of z x)) (Taking j ∷ q)))) same (at_spot x is inside few)
+    taken_turned : (x : Spot) (begins : Option Call) (j : Job) (p q : Place) → slot_of x < slots_in z → spot_of j ≡ x → found_at (spin_at z (slot_of x)) ≤ 1 → stance (Some o) t h (Taking j ∷ q) ≡ stance (Some o) t h p
+        → let n = found_at (spin_at z (slot_of x)) in let found = home_in homes (slot_of x) in
+        Turn z words homes (homes_after homes (carried (Take x begins) o p) (act_of (Take x begins) n found)) (spin_at z (slot_of x)) 1 (stance (Some o) t h p) (stance (Some o) t h (taken (eqb n 0) found (Taking j ∷ q)))
+    taken_turned x begins j p q inside is few same = subst (λ (u : Stance). Turn z words homes (after_take x) (spin_at z (slot_of x)) 1 u (stance (Some o) t h (taken (eqb (found_at (spin_at z (slot_of x))) 0) (home_in homes (slot_of x)) (Taking j ∷ q)))) same (at_spot x is inside few)
       where
         after_take : Spot → Homes
-        after_take y = homes_after homes (carried z (Take y begins) o p) (act_of z (Take y begins) (found_at (spin_at z (slot_of z y))) (home_in homes (slot_of z y)))
+        after_take y = homes_after homes (carried (Take y begins) o p) (act_of (Take y begins) (found_at (spin_at z (slot_of y))) (home_in homes (slot_of y)))
 
-        at_spot : (y : Spot) → spot_of j ≡ y → IsSpot z y → found_at (spin_at z (slot_of z y)) ≤ 1
-            → Turn z words homes (after_take y) (spin_at z (slot_of z y)) 1 (stance (Some o) t h (Taking j ∷ q)) (stance (Some o) t h (taken (eqb (found_at (spin_at z (slot_of z y))) 0) (home_in homes (slot_of z y)) (Taking j ∷ q)))
-        at_spot y e = subst (λ (s : Spot). IsSpot z s → found_at (spin_at z (slot_of z s)) ≤ 1
-            → Turn z words homes (after_take s) (spin_at z (slot_of z s)) 1 (stance (Some o) t h (Taking j ∷ q)) (stance (Some o) t h (taken (eqb (found_at (spin_at z (slot_of z s))) 0) (home_in homes (slot_of z s)) (Taking j ∷ q)))) e
-            (λ inside few. take_turned t h (carried z (Take (spot_of j) begins) o p) j q (eqb (found_at (spin_at z (condition_of j))) 0) inside (λ e. eqb-true _ 0 e) (λ e. is_one _ few e)
-            (λ e. let there = home (condition_of j) inside (eqb-true _ 0 e) in there.1 ∙ ap (λ k. maybe.some (maybe.some k)) (sym (ap home_of there.1))))
+        at_spot : (y : Spot) → spot_of j ≡ y → slot_of y < slots_in z → found_at (spin_at z (slot_of y)) ≤ 1
+            → Turn z words homes (after_take y) (spin_at z (slot_of y)) 1 (stance (Some o) t h (Taking j ∷ q)) (stance (Some o) t h (taken (eqb (found_at (spin_at z (slot_of y))) 0) (home_in homes (slot_of y)) (Taking j ∷ q)))
+        at_spot y e = subst (λ (s : Spot). slot_of s < slots_in z → found_at (spin_at z (slot_of s)) ≤ 1
+            → Turn z words homes (after_take s) (spin_at z (slot_of s)) 1 (stance (Some o) t h (Taking j ∷ q)) (stance (Some o) t h (taken (eqb (found_at (spin_at z (slot_of s))) 0) (home_in homes (slot_of s)) (Taking j ∷ q)))) e
+            (λ inside few. take_turned t h (carried (Take (spot_of j) begins) o p) j q (eqb (found_at (spin_at z (slot_of (spot_of j)))) 0) inside (λ e. eqb-true _ 0 e) (λ e. is_one _ few e)
+            (λ e. let there = home (slot_of (spot_of j)) inside (eqb-true _ 0 e) in there.1 ∙ ap (λ k. maybe.some (maybe.some k)) (sym (ap home_of there.1))))
 
-    take_at : (x : Spot) (p : Place) → IsSpot z x → MayTake x (top p) → found_at (spin_at z (slot_of z x)) ≤ 1 → TurnsAt (Take x None) t h p
+    take_at : (x : Spot) (p : Place) → slot_of x < slots_in z → MayTake x (top p) → found_at (spin_at z (slot_of x)) ≤ 1 → TurnsAt (Take x None) t h p
     take_at x (Taking j ∷ p) inside ok few = taken_turned x None j (Taking j ∷ p) p inside ok few refl
     take_at x p inside ok few = absurd ok
 
-    free_at : (x : Spot) (after : Option ℕ) (p : Place) → IsSpot z x → MayFree x after t (top p) → Fits z.cvs t p → TurnsAt (Free x after) t h p
+    free_at : (x : Spot) (after : Option ℕ) (p : Place) → slot_of x < slots_in z → MayFree x after t (top p) → Fits z.cvs t p → TurnsAt (Free x after) t h p
     free_at x after (Holding j list found ∷ p) inside ok fits = at_spot x ok.0 inside
       where
-        at_spot : (y : Spot) → spot_of j ≡ y → IsSpot z y → TurnsAt (Free y after) t h (Holding j list found ∷ p)
-        at_spot y e = subst (λ (s : Spot). IsSpot z s → TurnsAt (Free s after) t h (Holding j list found ∷ p)) e
-            (λ low. subst (λ (u : Option ℕ). Turn z words homes (set homes (condition_of j) (maybe.some (as_kept (left_list j o list) found))) (spin_at z (condition_of j)) 0 (stance (Some o) t h (Holding j list found ∷ p)) (stance (Some o) u (heeds_after j o list h) (goes_on j o list p)))
+        at_spot : (y : Spot) → spot_of j ≡ y → slot_of y < slots_in z → TurnsAt (Free y after) t h (Holding j list found ∷ p)
+        at_spot y e = subst (λ (s : Spot). slot_of s < slots_in z → TurnsAt (Free s after) t h (Holding j list found ∷ p)) e
+            (λ low. subst (λ (u : Option ℕ). Turn z words homes (set homes (slot_of (spot_of j)) (maybe.some (as_kept (left_list j o list) (left_record j found)))) (spin_at z (slot_of (spot_of j))) 0 (stance (Some o) t h (Holding j list found ∷ p)) (stance (Some o) u (heeds_after j o list h) (goes_on j o list p)))
             (sym ok.1) (free_turned t h j list found p low fits))
     free_at x after p inside ok fits = absurd ok
 
@@ -334,16 +343,16 @@ module _ (z : Size) (words : List ℕ) (homes : Homes) (o : ℕ) (below : o < z.
     turning (Shload None) p ok fits few = at_top (λ (r : Place). TurnsAt (Shload None) t h r) p CheckingShutdown ok (stays (reads refl) refl (checked_same (Some o) t h (eqb (found_at (shut_at z)) 0) (outer p)))
     turning (Shstore begins) p ok fits few = stays (shuts refl) refl (stopping_same (Some o) t h p ok.1)
     turning (Take x (Some c)) p ok fits few = let e = enters (Some o) t h c x p ok.1 ok.3 in
-        subst (λ (r : Place). Turn z words homes (homes_after homes (carried z (Take x (Some c)) o p) (act_of z (Take x (Some c)) (found_at (spin_at z (slot_of z x))) (home_in homes (slot_of z x)))) (spin_at z (slot_of z x)) 1
-        (stance (Some o) t h p) (stance (Some o) t h (taken (eqb (found_at (spin_at z (slot_of z x))) 0) (home_in homes (slot_of z x)) r))) (sym e.2) (taken_turned x (Some c) e.0 p e.1 ok.0 e.3 few e.4)
-    turning (Take x None) p ok fits few = take_at x p ok.0 ok.1 few
-    turning (Spin x) p ok fits few = stays (reads refl) refl (spun_same (Some o) t h (eqb (found_at (spin_at z (slot_of z x))) 0) x p ok.1)
-    turning (Free x after) p ok fits few = free_at x after p ok.0 ok.1 fits
+        subst (λ (r : Place). Turn z words homes (homes_after homes (carried (Take x (Some c)) o p) (act_of (Take x (Some c)) (found_at (spin_at z (slot_of x))) (home_in homes (slot_of x)))) (spin_at z (slot_of x)) 1
+        (stance (Some o) t h p) (stance (Some o) t h (taken (eqb (found_at (spin_at z (slot_of x))) 0) (home_in homes (slot_of x)) r))) (sym e.2) (taken_turned x (Some c) e.0 p e.1 (spot_inside z x most ok.0) e.3 few e.4)
+    turning (Take x None) p ok fits few = take_at x p (spot_inside z x most ok.0) ok.1 few
+    turning (Spin x) p ok fits few = stays (reads refl) refl (spun_same (Some o) t h (eqb (found_at (spin_at z (slot_of x))) 0) x p ok.1)
+    turning (Free x after) p ok fits few = free_at x after p (spot_inside z x most ok.0) ok.1 fits
 
   -- the same of a view
   pub view_turns : {C : Type 0} (v : WaitView C) (k : WaitStep) → AtHome → v.own ≡ Some o → Permits z k (Some o) v.target v.place → Fits z.cvs v.target v.place → found_at (word_of z o k) ≤ 1
-      → Turn z words homes (homes_after homes (carried z k o v.place) (act_of z k (found_at (word_of z o k)) (home_in homes (slot_number z k)))) (word_of z o k) (becomes k (found_at (word_of z o k)))
-      (stance_of v) (stance_of (next_with z k v (found_at (word_of z o k)) (home_in homes (slot_number z k))))
-  view_turns v k home own ok fits few = subst (λ (x : Option ℕ). Turn z words homes (homes_after homes (carried z k o v.place) (act_of z k (found_at (word_of z o k)) (home_in homes (slot_number z k)))) (word_of z o k) (becomes k (found_at (word_of z o k)))
-      (stance x v.target v.heeds v.place) (stance x (target_then k v.target) (heeds_then k (number_of x) v.place v.heeds) (place_then z k (found_at (word_of z o k)) (home_in homes (slot_number z k)) record { own = number_of x; target = v.target; place = v.place })))
+      → Turn z words homes (homes_after homes (carried k o v.place) (act_of k (found_at (word_of z o k)) (home_in homes (slot_number k)))) (word_of z o k) (becomes k (found_at (word_of z o k)))
+      (stance_of v) (stance_of (next_with z k v (found_at (word_of z o k)) (home_in homes (slot_number k))))
+  view_turns v k home own ok fits few = subst (λ (x : Option ℕ). Turn z words homes (homes_after homes (carried k o v.place) (act_of k (found_at (word_of z o k)) (home_in homes (slot_number k)))) (word_of z o k) (becomes k (found_at (word_of z o k)))
+      (stance x v.target v.heeds v.place) (stance x (target_then k v.target) (heeds_then k (number_of x) v.place v.heeds) (place_then z k (found_at (word_of z o k)) (home_in homes (slot_number k)) record { own = number_of x; target = v.target; place = v.place })))
       (sym own) (turning home v.target v.heeds k v.place ok fits few)

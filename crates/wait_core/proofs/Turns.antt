@@ -5,7 +5,7 @@ use lib.ListN.{get_elem?}
 use Rattle.wait_core.specs.declared.view.Kept.{Kept}
 use Rattle.wait_core.specs.declared.view.Size.{Size}
 use Rattle.seat_roster.specs.Roster.{times}
-use Rattle.wait_core.specs.Words.{set_at, may_at, byte_at, shut_at, spin_at, client_base}
+use Rattle.wait_core.specs.Words.{set_at, may_at, byte_at, shut_at, spin_at, client_base, slots_in}
 use Rattle.wait_core.specs.Lists.{without}
 use Rattle.wait_core.specs.Stances.{Hand, Stance, Homes}
 
@@ -52,10 +52,10 @@ pub data Turn (z : Size) (words : List ℕ) (homes after : Homes) (i x : ℕ) (v
   -- the own latch is cleared
   resets : (p : ℕ) → p < z.procs → v.own ≡ Some p → i ≡ set_at p → x ≡ 0 → after ≡ homes → w ≡ record v { heeds = None } → Turn z words homes after i x v w
   -- a spin word is set, and the list is in hand
-  takes : (c : ℕ) (k : Kept) → c < z.cvs + z.bars → i ≡ spin_at z c → x ≡ 1 → get_or words i 0 ≡ 0 → get_elem? homes c ≡ maybe.some (maybe.some k) → after ≡ set homes c maybe.none → v.hand ≡ None
+  takes : (c : ℕ) (k : Kept) → c < slots_in z → i ≡ spin_at z c → x ≡ 1 → get_or words i 0 ≡ 0 → get_elem? homes c ≡ maybe.some (maybe.some k) → after ≡ set homes c maybe.none → v.hand ≡ None
       → w ≡ record v { hand = in_hand c k.list.items } → Turn z words homes after i x v w
   -- it is cleared, and the list goes home
-  frees : (p c : ℕ) (found : List ℕ) (k : Kept) → p < z.procs → c < z.cvs + z.bars → v.own ≡ Some p → i ≡ spin_at z c → x ≡ 0 → v.hand ≡ in_hand c found → v.pops ≡ None → after ≡ set homes c (maybe.some k)
+  frees : (p c : ℕ) (found : List ℕ) (k : Kept) → p < z.procs → c < slots_in z → v.own ≡ Some p → i ≡ spin_at z c → x ≡ 0 → v.hand ≡ in_hand c found → v.pops ≡ None → after ≡ set homes c (maybe.some k)
       → Sends p c found k.list.items v w → Turn z words homes after i x v w
 
 -- the stance of a seat in no call and without a target

@@ -1,9 +1,12 @@
 -- The client's law.
-use Rattle.std.specs.Prelude.{ℕ, List}
-use Rattle.wait_core.specs.declared.view.PartyView.{PartyView}
+use Rattle.std.specs.Prelude.{map}
 use Rattle.wait_core.specs.declared.view.Size.{Size}
-use Rattle.wait_core.specs.Words.{client_words, phases}
+use Rattle.wait_core.specs.Words.{client_words}
+use Rattle.wait_core.specs.Machine.{WaitState}
+use Rattle.wait_core.specs.Meanings.{Meanings}
+use Rattle.wait_core.specs.Seating.{party_of}
+use Rattle.wait_core.specs.Barriers.{phases_in}
 
 -- it holds of the client's words, of the views of its seats, and of each barrier's phase
-abbrev pub ClientHolds : {C : Type 0} → (List ℕ → List (PartyView C) → List ℕ → Type 0) → Size → ℕ → List ℕ → List (PartyView C) → Type 0
-ClientHolds holds z phase words seats = holds (client_words z words) seats (phases z phase)
+abbrev pub ClientHolds : {C : Type 0} → Meanings C → Size → WaitState C → Type 0
+ClientHolds means z s = means.holds (client_words z s.words) (map party_of s.views) (phases_in z s)

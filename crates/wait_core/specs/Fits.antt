@@ -40,6 +40,8 @@ module _ (cvs : ℕ) (t : Option ℕ) where
   JobFits (job.Signal c) p = (c < cvs) × (p ≡ [])
   JobFits (job.Broadcast c) p = (c < cvs) × (t ≡ None) × (p ≡ [])
   JobFits (job.Rebroadcast c) p = (c < cvs) × (t ≡ None) × (p ≡ [])
+  JobFits (job.Attach b) p = p ≡ []
+  JobFits (job.Detach b) p = p ≡ []
 
   abbrev pub Fits : Place → Type 0
   Fits [] = ⊤

@@ -1,24 +1,24 @@
--- What a spin word is taken for: which word, what its free makes of the list, of the seat's target and of whether it heeds its signal, and how the program goes on.
-use Rattle.std.specs.Prelude.{ℕ, ◌==◌, Bool, true, false, cond, List, [], ◌∷◌, ◌++◌, Option, None, Some}
+-- What a spin word is taken for: which word, what its free makes of the list, of the record, of the seat's target, of whether it heeds its signal and of its attachments, and how the program goes on.
+use Rattle.std.specs.Prelude.{ℕ, ◌+◌, ◌-◌, ◌==◌, Bool, true, false, cond, List, [], ◌∷◌, ◌++◌, Option, None, Some}
 use Rattle.wait_core.specs.declared.step.Spot.{Spot}
-use Rattle.wait_core.specs.declared.step.Spot.TheVariants.{Cv}
+use Rattle.wait_core.specs.declared.step.Spot.TheVariants.{Cv, Bar}
 use Rattle.wait_core.specs.declared.view.Job.{Job}
 use Rattle.wait_core.specs.declared.view.Job.TheVariants as job
 use Rattle.wait_core.specs.declared.view.Frame.{Frame}
 use Rattle.wait_core.specs.declared.view.Frame.TheVariants.{Taking, Resetting, SleepWaiting, Preparing, Broadcasting, Signalling, Rousing}
+use Rattle.wait_core.specs.declared.view.Record.{Record}
 use Rattle.wait_core.specs.Lists.{is_listed, is_empty, rest_of, without}
 
--- the condition of the job, and its spin word
-abbrev pub condition_of : Job → ℕ
-condition_of (job.Cancel c) = c
-condition_of (job.Prepare c) = c
-condition_of (job.Resleep c) = c
-condition_of (job.Signal c) = c
-condition_of (job.Broadcast c) = c
-condition_of (job.Rebroadcast c) = c
-
+-- the spin word of the job
 abbrev pub spot_of : Job → Spot
-spot_of j = Cv (condition_of j)
+spot_of (job.Cancel c) = Cv c
+spot_of (job.Prepare c) = Cv c
+spot_of (job.Resleep c) = Cv c
+spot_of (job.Signal c) = Cv c
+spot_of (job.Broadcast c) = Cv c
+spot_of (job.Rebroadcast c) = Cv c
+spot_of (job.Attach b) = Bar b
+spot_of (job.Detach b) = Bar b
 
 -- the list that goes home, where the backend `own` found this one
 abbrev pub left_list : Job → ℕ → List ℕ → List ℕ
@@ -28,6 +28,23 @@ left_list (job.Resleep c) own list = cond (is_listed own list) list (list ++ own
 left_list (job.Signal c) own list = rest_of list
 left_list (job.Broadcast c) own list = cond (is_empty (rest_of list)) [] (rest_of list ++ own ∷ [])
 left_list (job.Rebroadcast c) own list = rest_of list
+left_list j own list = list
+
+-- the record that goes home
+abbrev pub left_record : Job → Record → Record
+left_record (job.Attach b) r = record r { participants = r.participants + 1 }
+left_record (job.Detach b) r = record r { participants = r.participants - 1 }
+left_record j r = r
+
+-- the barriers to which the seat is attached after it, each with the phase that it knows: without one of them, and after a free
+abbrev pub away_from : ℕ → List (ℕ × ℕ) → List (ℕ × ℕ)
+away_from b [] = []
+away_from b (a ∷ more) = cond (a.0 == b) (away_from b more) (a ∷ away_from b more)
+
+abbrev pub attached_after : Job → Record → List (ℕ × ℕ) → List (ℕ × ℕ)
+attached_after (job.Attach b) r attached = (b, r.phase) ∷ attached
+attached_after (job.Detach b) r attached = away_from b attached
+attached_after j r attached = attached
 
 -- the seat's target after it
 abbrev pub target_after : Job → Option ℕ → Option ℕ
@@ -72,3 +89,4 @@ goes_on (job.Resleep c) own list p = cond (is_listed own list) (SleepWaiting c �
 goes_on (job.Signal c) own list p = signals c list p
 goes_on (job.Broadcast c) own list p = rouses c list p
 goes_on (job.Rebroadcast c) own list p = rouses_on c own list p
+goes_on j own list p = resumed p

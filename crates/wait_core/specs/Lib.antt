@@ -4,6 +4,7 @@ pub mod Lists
 pub mod Jobs
 pub mod Machine
 pub mod Parties
+pub mod Meanings
 pub mod Seating
 pub mod Places
 pub mod Fits
@@ -11,6 +12,7 @@ pub mod Stances
 pub mod MaySleepIsMarked
 pub mod SetLatchWakes
 pub mod ShutdownWakes
+pub mod Barriers
 pub mod ClientHolds
 pub mod WordsAreMade
 pub mod Slots
@@ -20,7 +22,6 @@ pub mod SignalIsKept
 pub mod ListsAreMade
 pub mod ListsStand
 pub mod LeftAreFree
-pub mod Barriers
 pub mod Rule
 pub mod Wakes
 pub mod Runs

@@ -7,7 +7,7 @@ use Rattle.wait_core.specs.declared.view.Kept.{Kept}
 use Rattle.wait_core.specs.declared.view.Made.{Made}
 use Rattle.wait_core.specs.declared.view.Size.{Size}
 use Rattle.seat_roster.specs.WordsAreMade.{Effect, AreMade}
-use Rattle.wait_core.specs.Words.{slot_of}
+use Rattle.wait_core.specs.Words.{slot_of, slots_in}
 use Rattle.wait_core.specs.Seating.{Doings}
 use Rattle.wait_core.specs.Stances.{Homes}
 use Rattle.wait_core.specs.WordsAreMade.{all_steps}
@@ -24,10 +24,10 @@ is_home list maybe.none = 0
 is_home list (maybe.some k) = is_same list k.list.items
 
 -- the slots are counted from 1: a step that takes or frees none counts for 0
-abbrev pub slot_used : Size → WaitStep → ℕ → ℕ
-slot_used z (Take x begins) n = cond (n == 0) (suc (slot_of z x)) 0
-slot_used z (Free x target) n = suc (slot_of z x)
-slot_used z k n = 0
+abbrev pub slot_used : WaitStep → ℕ → ℕ
+slot_used (Take x begins) n = cond (n == 0) (suc (slot_of x)) 0
+slot_used (Free x target) n = suc (slot_of x)
+slot_used k n = 0
 
 -- the step found this list, or left it
 abbrev pub finds : List ℕ → WaitStep → ℕ → List ℕ → ℕ
@@ -38,8 +38,8 @@ abbrev pub leaves : List ℕ → WaitStep → List ℕ → ℕ
 leaves list (Free x target) left = is_same list left
 leaves list k left = 0
 
-abbrev pub moves : Size → List ℕ → Effect Made
-moves z list = record { word = λ own m. slot_used z m.step m.found; found = λ m. finds list m.step m.found m.list; left = λ m. leaves list m.step m.list }
+abbrev pub moves : List ℕ → Effect Made
+moves list = record { word = λ own m. slot_used m.step m.found; found = λ m. finds list m.step m.found m.list; left = λ m. leaves list m.step m.list }
 
 -- for each slot
 abbrev pub at_homes : List ℕ → Homes → List ℕ
@@ -47,4 +47,4 @@ at_homes list homes = 0 ∷ map (is_home list) homes
 
 -- Each list has gone home to a slot, with what stood there at the opening, as often as it was found there; and once more where it is there. At the opening nobody is on a list
 abbrev pub ListsAreMade : Size → Homes → List Doings → Type 0
-ListsAreMade z homes seats = (list : List ℕ) → AreMade (moves z list) (λ i. is_same list []) (suc (z.cvs + z.bars)) (at_homes list homes) (map all_steps seats)
+ListsAreMade z homes seats = (list : List ℕ) → AreMade (moves list) (λ i. is_same list []) (suc (slots_in z)) (at_homes list homes) (map all_steps seats)

@@ -4,7 +4,7 @@ use mathlib.Core.Option as maybe
 use lib.ListN.{get_elem?}
 use Rattle.atomic_table.specs.Table.{State, Act, keeps, takes, gives, stepped}
 use Rattle.wait_core.specs.declared.step.Spot.{Spot}
-use Rattle.wait_core.specs.declared.step.Spot.TheVariants.{Cv}
+use Rattle.wait_core.specs.declared.step.Spot.TheVariants.{Cv, Bar}
 use Rattle.wait_core.specs.declared.step.Until.{Until}
 use Rattle.wait_core.specs.declared.step.Until.TheVariants.{Latch, LatchOrShutdown}
 use Rattle.wait_core.specs.declared.step.Call.{Call}
@@ -19,8 +19,8 @@ use Rattle.wait_core.specs.declared.view.Kept.{Kept}
 use Rattle.wait_core.specs.declared.view.Record.{Record}
 use Rattle.wait_core.specs.declared.view.Size.{Size}
 use Rattle.wait_core.specs.declared.view.WaitView.{WaitView}
-use Rattle.wait_core.specs.Words.{set_at, may_at, byte_at, shut_at, slot_of, spin_at}
-use Rattle.wait_core.specs.Jobs.{spot_of, left_list, target_after, heeds_after, resumed, goes_on}
+use Rattle.wait_core.specs.Words.{set_at, may_at, byte_at, shut_at, slot_of, slots_in, spin_at}
+use Rattle.wait_core.specs.Jobs.{spot_of, left_list, left_record, target_after, heeds_after, attached_after, resumed, goes_on}
 
 -- the words, what is at home in the slots, and one view per seat
 abbrev pub WaitState : Type 0 → Type 0
@@ -58,9 +58,9 @@ word_of z own Look = byte_at own
 word_of z own Drain = byte_at own
 word_of z own (Shload begins) = shut_at z
 word_of z own (Shstore begins) = shut_at z
-word_of z own (Take x begins) = spin_at z (slot_of z x)
-word_of z own (Spin x) = spin_at z (slot_of z x)
-word_of z own (Free x target) = spin_at z (slot_of z x)
+word_of z own (Take x begins) = spin_at z (slot_of x)
+word_of z own (Spin x) = spin_at z (slot_of x)
+word_of z own (Free x target) = spin_at z (slot_of x)
 
 -- what the word n becomes
 abbrev pub becomes : WaitStep → ℕ → ℕ
@@ -155,6 +155,8 @@ entered None (call.Sleep c) p = Taking (job.Prepare c) ∷ p
 entered target (call.Signal c) p = Taking (job.Signal c) ∷ p
 entered (Some t) (call.Broadcast c) p = Taking (job.Cancel t) ∷ Broadcasting c ∷ p
 entered None (call.Broadcast c) p = Taking (job.Broadcast c) ∷ p
+entered target (call.Attach b) p = Taking (job.Attach b) ∷ p
+entered target (call.Detach b) p = Taking (job.Detach b) ∷ p
 entered target c p = p
 
 -- what a spin word guards, with this list and this record
@@ -220,9 +222,18 @@ heeds_then (Reset (Some c)) own p heeds = false
 heeds_then (Free x target) own p heeds = freed_heeds own p heeds
 heeds_then k own p heeds = heeds
 
+-- the barriers to which it is attached
+abbrev pub freed_attached : Place → List (ℕ × ℕ) → List (ℕ × ℕ)
+freed_attached (Holding j list found ∷ p) attached = attached_after j found attached
+freed_attached p attached = attached
+
+abbrev pub attached_then : WaitStep → Place → List (ℕ × ℕ) → List (ℕ × ℕ)
+attached_then (Free x target) p attached = freed_attached p attached
+attached_then k p attached = attached
+
 -- what is left of what the backend `own` has in hand
 abbrev pub left_at : ℕ → Place → Kept
-left_at own (Holding j list found ∷ p) = as_kept (left_list j own list) found
+left_at own (Holding j list found ∷ p) = as_kept (left_list j own list) (left_record j found)
 left_at own p = as_kept [] record { phase = 0; participants = 0; arrived = 0; elected = 0 }
 
 -- the list that the step took in hand, or sent home
@@ -253,22 +264,22 @@ step_spot (Spin x) = Some x
 step_spot (Free x target) = Some x
 step_spot k = None
 
-abbrev pub slot_at : Size → Option Spot → ℕ
-slot_at z None = 0
-slot_at z (Some x) = slot_of z x
+abbrev pub slot_at : Option Spot → ℕ
+slot_at None = 0
+slot_at (Some x) = slot_of x
 
-abbrev pub slot_number : Size → WaitStep → ℕ
-slot_number z k = slot_at z (step_spot k)
+abbrev pub slot_number : WaitStep → ℕ
+slot_number k = slot_at (step_spot k)
 
 -- what the step does to its slot, where it found n
-abbrev pub act_of : Size → WaitStep → ℕ → Kept → Act Kept
-act_of z (Take x begins) n found = cond (n == 0) (takes (slot_of z x) found) keeps
-act_of z (Free x target) n found = gives
-act_of z k n found = keeps
+abbrev pub act_of : WaitStep → ℕ → Kept → Act Kept
+act_of (Take x begins) n found = cond (n == 0) (takes (slot_of x) found) keeps
+act_of (Free x target) n found = gives
+act_of k n found = keeps
 
 -- the slot that the seat has out when it frees its word, with what is left
-abbrev pub carried : Size → WaitStep → ℕ → Place → List (ℕ × Kept)
-carried z k own p = (slot_number z k, left_at own p) ∷ []
+abbrev pub carried : WaitStep → ℕ → Place → List (ℕ × Kept)
+carried k own p = (slot_number k, left_at own p) ∷ []
 
 -- CONDITIONS. The call sets the latch of q, or waits for the own latch alone
 abbrev pub SetsLatchOf : ℕ → Call → Type 0
@@ -311,25 +322,28 @@ named_by (call.Signal c) = Some c
 named_by (call.Broadcast c) = Some c
 named_by c = None
 
--- the condition whose spin word the call takes first, in a seat with this target
-abbrev pub takes_first : Option ℕ → Call → Option ℕ
-takes_first target call.Cancel = target
-takes_first None (call.Prepare c) = Some c
-takes_first (Some t) (call.Prepare c) = Some t
-takes_first None (call.Sleep c) = Some c
-takes_first (Some t) (call.Sleep c) = cond (t == c) None (Some t)
-takes_first target (call.Signal c) = Some c
-takes_first None (call.Broadcast c) = Some c
-takes_first (Some t) (call.Broadcast c) = Some t
-takes_first target c = None
-
+-- the spin word that the call takes first, in a seat with this target: that of its condition or barrier, or of the list that it leaves first
 abbrev pub spot_for : Option ℕ → Option Spot
 spot_for None = None
 spot_for (Some c) = Some (Cv c)
 
+abbrev pub takes_first : Option ℕ → Call → Option Spot
+takes_first target call.Cancel = spot_for target
+takes_first None (call.Prepare c) = Some (Cv c)
+takes_first (Some t) (call.Prepare c) = Some (Cv t)
+takes_first None (call.Sleep c) = Some (Cv c)
+takes_first (Some t) (call.Sleep c) = cond (t == c) None (Some (Cv t))
+takes_first target (call.Signal c) = Some (Cv c)
+takes_first None (call.Broadcast c) = Some (Cv c)
+takes_first (Some t) (call.Broadcast c) = Some (Cv t)
+takes_first target (call.Attach b) = Some (Bar b)
+takes_first target (call.Detach b) = Some (Bar b)
+takes_first target c = None
+
 -- the spin word is the table's
 abbrev pub IsSpot : Size → Spot → Type 0
-IsSpot z x = slot_of z x < z.cvs + z.bars
+IsSpot z (Cv c) = c < z.cvs
+IsSpot z (Bar b) = b < z.bars
 
 abbrev pub MayTake : Spot → Option Frame → Type 0
 MayTake x (Some (Taking j)) = spot_of j ≡ x
@@ -389,7 +403,7 @@ Permits z Drain own target p = MayDrain (top p)
 Permits z (Shload (Some c)) own target p = (c ≡ call.IsShut) × MayBegin call.IsShut p
 Permits z (Shload None) own target p = top p ≡ Some CheckingShutdown
 Permits z (Shstore begins) own target p = (begins ≡ Some call.Shut) × MayBegin call.Shut p
-Permits z (Take x (Some c)) own target p = IsSpot z x × (spot_for (takes_first target c) ≡ Some x) × IsBelow z.cvs (named_by c) × MayBegin c p
+Permits z (Take x (Some c)) own target p = IsSpot z x × (takes_first target c ≡ Some x) × IsBelow z.cvs (named_by c) × MayBegin c p
 Permits z (Take x None) own target p = IsSpot z x × MayTake x (top p)
 Permits z (Spin x) own target p = IsSpot z x × MaySpin x (top p)
 Permits z (Free x after) own target p = IsSpot z x × MayFree x after target (top p)
@@ -405,6 +419,7 @@ module _ {C : Type 0} where
     steps = v.steps ++ made_with k n (list_of k n found (number_of v.own) v.place) ∷ [];
     target = target_then k v.target;
     heeds = heeds_then k (number_of v.own) v.place v.heeds;
+    attached = attached_then k v.place v.attached;
   }
 
   -- the same of a step that takes nothing in hand
@@ -418,5 +433,5 @@ module _ {C : Type 0} where
   -- the state after the step k of the seat id, whose view is v
   abbrev pub after : Size → WaitState C → ℕ → WaitView C → WaitStep → WaitState C
   after z s id v k =
-      let own = number_of v.own in let i = word_of z own k in let n = slice_index s.words i in let found = home_in s.homes (slot_number z k) in
-      stepped s i (becomes k n) id (carried z k own v.place) (next_with z k v n found) (act_of z k n found)
+      let own = number_of v.own in let i = word_of z own k in let n = slice_index s.words i in let found = home_in s.homes (slot_number k) in
+      stepped s i (becomes k n) id (carried k own v.place) (next_with z k v n found) (act_of k n found)

@@ -8,7 +8,8 @@ use Rattle.wait_core.specs.declared.view.Kept.{Kept}
 use Rattle.wait_core.specs.declared.view.PartyView.{PartyView}
 use Rattle.wait_core.specs.declared.view.Size.{Size}
 use Rattle.wait_core.specs.declared.view.WaitView.{WaitView}
-use Rattle.wait_core.specs.Words.{set_at, shut_at, opened, opening_words, phases}
+use Rattle.wait_core.specs.Meanings.{Meanings}
+use Rattle.wait_core.specs.Words.{most_conditions, set_at, shut_at, opened, opening_words, opening_phases}
 use Rattle.wait_core.specs.Machine.{WaitState}
 use Rattle.wait_core.specs.Parties.{newcomer}
 use Rattle.wait_core.specs.Seating.{fresh}
@@ -44,22 +45,23 @@ module _ {C : Type 0} where
   LastHoldsAlone s = (i j : ℕ) (v u : WaitView C) → (j ≡ i → ⊥) → get_elem? s.views i ≡ maybe.some v → get_elem? s.views j ≡ maybe.some u → v.own ≡ Some 0 → length v.taken ≡ v.drawn → IsLeftOver u
 
   -- the state of a new table, at whose words the client's law holds
-  pub record IsOpening (first : C) (opens : ℕ → ℕ) (holds : List ℕ → List (PartyView C) → List ℕ → Type 0) (count : ℕ) (z : Size) (phase : ℕ) (s : WaitState C) : Type 0 where
+  pub record IsOpening (first : C) (opens : ℕ → ℕ) (means : Meanings C) (count : ℕ) (z : Size) (phase : ℕ) (s : WaitState C) : Type 0 where
     pub procs : (0 < z.procs) × (z.procs ≤ 64)
+    pub cvs : z.cvs ≤ most_conditions
     pub slots : List Kept
     pub new : OpeningSlots z phase slots
-    pub kept : holds (opened opens count) (newcomer first (Some 0) ∷ []) (phases z phase)
+    pub kept : means.holds (opened opens count) (newcomer first (Some 0) ∷ []) (opening_phases z phase)
     pub is : s ≡ opening (opening_words z opens count) slots (fresh first (Some 0))
 
   -- some list of events leads from an opening to the state
-  abbrev pub IsReached : {X : Type 0} → (X → ClientOp) → (PartyView C → X → Type 0) → (PartyView C → X → ℕ → C) → C → C → (C → C → C) → (ℕ → ℕ) → (List ℕ → List (PartyView C) → List ℕ → Type 0) → ℕ → Size → ℕ → WaitState C → Type 0
-  IsReached {X} does may then first spent both opens holds count z phase t = (s : WaitState C) × (es : List (ℕ × Deed X)) × IsOpening first opens holds count z phase s × Runs does may then first spent both z s es t
+  abbrev pub IsReached : {X : Type 0} → (X → ClientOp) → (PartyView C → X → Type 0) → (PartyView C → X → ℕ → C) → C → C → (C → C → C) → (ℕ → ℕ) → Meanings C → ℕ → Size → ℕ → WaitState C → Type 0
+  IsReached {X} does may then first spent both opens means count z phase t = (s : WaitState C) × (es : List (ℕ × Deed X)) × IsOpening first opens means count z phase s × Runs does may then first spent both means z s es t
 
-  module _ {X : Type 0} (does : X → ClientOp) (may : PartyView C → X → Type 0) (then : PartyView C → X → ℕ → C) (first spent : C) (both : C → C → C) (z : Size) where
+  module _ {X : Type 0} (does : X → ClientOp) (may : PartyView C → X → Type 0) (then : PartyView C → X → ℕ → C) (first spent : C) (both : C → C → C) (means : Meanings C) (z : Size) where
     -- in a run from the first take of a broadcast: whoever was on the list left it since, by itself or popped, or the broadcaster still has the list as it was found, or its sentinel stands behind
-    abbrev pub SentinelStandsBehind : (s : WaitState C) (es : List (ℕ × Deed X)) (t : WaitState C) → Runs does may then first spent both z s es t → Type 0
-    SentinelStandsBehind s es t run = (id q c p : ℕ) (list : List ℕ) → AtFirstTake id q c list s → 1 ≤ times p list → Somewhere does may then first spent both z (TakesOff p c) s es t run ⊎ (AtFirstTake id q c list t ⊎ StandsBehind q p c t)
+    abbrev pub SentinelStandsBehind : (s : WaitState C) (es : List (ℕ × Deed X)) (t : WaitState C) → Runs does may then first spent both means z s es t → Type 0
+    SentinelStandsBehind s es t run = (id q c p : ℕ) (list : List ℕ) → AtFirstTake id q c list s → 1 ≤ times p list → Somewhere does may then first spent both means z (TakesOff p c) s es t run ⊎ (AtFirstTake id q c list t ⊎ StandsBehind q p c t)
 
     -- and once the broadcaster is in no call, everyone who was on the list left it since, by itself or popped
-    abbrev pub BroadcastWakesAll : (s : WaitState C) (es : List (ℕ × Deed X)) (t : WaitState C) → Runs does may then first spent both z s es t → Type 0
-    BroadcastWakesAll s es t run = (id q c p : ℕ) (list : List ℕ) (v : WaitView C) → AtFirstTake id q c list s → get_elem? t.views id ≡ maybe.some v → v.place ≡ [] → 1 ≤ times p list → Somewhere does may then first spent both z (TakesOff p c) s es t run
+    abbrev pub BroadcastWakesAll : (s : WaitState C) (es : List (ℕ × Deed X)) (t : WaitState C) → Runs does may then first spent both means z s es t → Type 0
+    BroadcastWakesAll s es t run = (id q c p : ℕ) (list : List ℕ) (v : WaitView C) → AtFirstTake id q c list s → get_elem? t.views id ≡ maybe.some v → v.place ≡ [] → 1 ≤ times p list → Somewhere does may then first spent both means z (TakesOff p c) s es t run

@@ -1,11 +1,11 @@
 -- The rule of the table, which holds between any two steps. Each part speaks of some words and of what it sees of each view.
 use Rattle.std.specs.Prelude.{◌≡◌, ℕ, ◌+◌, ◌<◌, ◌≤◌, List, map, length, slice_index}
-use Rattle.wait_core.specs.declared.view.PartyView.{PartyView}
 use Rattle.wait_core.specs.declared.view.Size.{Size}
+use Rattle.wait_core.specs.Meanings.{Meanings}
 use Rattle.seat_roster.specs.Totals.{total}
 use Rattle.seat_roster.specs.Roster.{Numbers, Roster, one_if}
 use Rattle.wait_core.specs.Parties.{Barriers}
-use Rattle.wait_core.specs.Words.{client_base, phases}
+use Rattle.wait_core.specs.Words.{most_conditions, client_base, slots_in}
 use Rattle.wait_core.specs.Machine.{WaitState}
 use Rattle.wait_core.specs.Seating.{numbers_of, standing_of, doings_of, party_of}
 use Rattle.wait_core.specs.Stances.{stance_of}
@@ -18,13 +18,14 @@ use Rattle.wait_core.specs.WordsAreMade.{WordsAreMade}
 use Rattle.wait_core.specs.ListsAreMade.{ListsAreMade}
 use Rattle.wait_core.specs.ListsStand.{ListsStand}
 use Rattle.wait_core.specs.LeftAreFree.{LeftAreFree}
-use Rattle.wait_core.specs.Barriers.{attendance_of, IdleAreHere}
+use Rattle.wait_core.specs.Barriers.{attendance_of, phases_in, CountsParticipants, NoneIsBelow, IdleAreHere, CallsSuit}
 
 -- the numbers of backends, of words, and of slots: one for each condition and each barrier
 pub record Sized (z : Size) (count words homes : ℕ) : Type 0 where
   pub procs : (0 < z.procs) × (z.procs ≤ 64)
+  pub cvs : z.cvs ≤ most_conditions
   pub long : words ≡ client_base z + count
-  pub slots : homes ≡ z.cvs + z.bars
+  pub slots : homes ≡ slots_in z
 
 -- each word between the next number and the client's is 0 or 1
 abbrev pub Flags : Size → List ℕ → Type 0
@@ -34,7 +35,7 @@ Flags z words = (i : ℕ) → 0 < i → i < client_base z → slice_index words 
 abbrev pub SeatsAreCounted : ℕ → List Numbers → Type 0
 SeatsAreCounted next seats = length seats + total (λ v. one_if v.pending) seats ≡ next
 
-module _ {C : Type 0} (holds : List ℕ → List (PartyView C) → List ℕ → Type 0) (z : Size) (phase count : ℕ) where
+module _ {C : Type 0} (means : Meanings C) (z : Size) (phase count : ℕ) where
   pub record Rule (s : WaitState C) : Type 0 where
     pub sized : Sized z count (length s.words) (length s.homes)
     pub flags : Flags z s.words
@@ -48,6 +49,9 @@ module _ {C : Type 0} (holds : List ℕ → List (PartyView C) → List ℕ → 
     pub lists_made : ListsAreMade z s.homes (map doings_of s.views)
     pub lists : ListsStand z s.words s.homes (map stance_of s.views)
     pub left : LeftAreFree (map party_of s.views)
-    pub barriers : Barriers (map party_of s.views) (phases z phase)
-    pub here : IdleAreHere (phases z phase) (map attendance_of s.views)
-    pub client : ClientHolds holds z phase s.words (map party_of s.views)
+    pub barriers : Barriers (map party_of s.views) (phases_in z s)
+    pub here : IdleAreHere (phases_in z s) (map attendance_of s.views)
+    pub participants : CountsParticipants z s.homes (map attendance_of s.views)
+    pub reached : NoneIsBelow z phase s.homes (map attendance_of s.views)
+    pub suits : CallsSuit means (map attendance_of s.views)
+    pub client : ClientHolds means z s

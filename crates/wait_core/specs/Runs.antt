@@ -8,9 +8,11 @@ use Rattle.wait_core.specs.declared.step.WaitStep.{WaitStep}
 use Rattle.wait_core.specs.declared.view.PartyView.{PartyView}
 use Rattle.wait_core.specs.declared.view.Size.{Size}
 use Rattle.wait_core.specs.declared.view.WaitView.{WaitView}
+use Rattle.wait_core.specs.Meanings.{Meanings}
 use Rattle.wait_core.specs.Ops.{op_at, op_gives}
 use Rattle.wait_core.specs.Words.{client_base}
 use Rattle.wait_core.specs.Machine.{WaitState, Allowed, after}
+use Rattle.wait_core.specs.Barriers.{StepSuits}
 use Rattle.wait_core.specs.Seating.{party_of, client_moved, with_drawn, stays, comes, took_in, spent_view}
 
 -- what a seat does: a step of the machine, a step of the client; it draws the next number, or gives the number drawn to a new seat; or it takes in another seat
@@ -21,7 +23,7 @@ pub data Deed (X : Type 0) : Type 0 where
   seat : Deed X
   join : ℕ → Deed X
 
-module _ {C X : Type 0} (does : X → ClientOp) (may : PartyView C → X → Type 0) (then : PartyView C → X → ℕ → C) (first spent : C) (both : C → C → C) (z : Size) where
+module _ {C X : Type 0} (does : X → ClientOp) (may : PartyView C → X → Type 0) (then : PartyView C → X → ℕ → C) (first spent : C) (both : C → C → C) (means : Meanings C) (z : Size) where
   -- the state after a step of the client
   abbrev pub after_client : WaitState C → ℕ → WaitView C → X → WaitState C
   after_client s id v x = let i = client_base z + op_at (does x) in let n = slice_index s.words i in stepped s i (op_gives (does x) n) id [] (client_moved v (then (party_of v) x n)) keeps
@@ -37,7 +39,7 @@ module _ {C X : Type 0} (does : X → ClientOp) (may : PartyView C → X → Typ
 
   -- the seat id, with the number own and the view v, does this, and the state becomes t
   abbrev pub Deeds : WaitState C → ℕ → WaitView C → Deed X → WaitState C → Type 0
-  Deeds s id v (machine k) t = Allowed z k v × (t ≡ after z s id v k)
+  Deeds s id v (machine k) t = Allowed z k v × StepSuits means k v × (t ≡ after z s id v k)
   Deeds s id v (client x) t = (v.place ≡ []) × may (party_of v) x × (t ≡ after_client s id v x)
   Deeds s id v draw t = (v.own ≡ Some 0) × (v.pending ≡ None) × (v.drawn + 1 < z.procs) × (t ≡ after_draw s id v)
   Deeds s id v seat t = ((n : ℕ) × (v.pending ≡ Some n)) × (t ≡ after_seat s id v)

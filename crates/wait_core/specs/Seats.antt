@@ -6,7 +6,7 @@ use Rattle.wait_core.specs.declared.view.Kept.{Kept}
 use Rattle.wait_core.specs.declared.view.Record.{Record}
 use Rattle.wait_core.specs.declared.view.Size.{Size}
 use Rattle.wait_core.specs.declared.view.WaitView.{WaitView}
-use Rattle.wait_core.specs.Words.{byte_at, client_base}
+use Rattle.wait_core.specs.Words.{byte_at, client_base, slots_in}
 use Rattle.wait_core.specs.Stances.{Hand, hand_at}
 
 -- its table, its place among the views, its view, and what it has in hand, as it changed it: a list and a record
@@ -48,7 +48,7 @@ table_view t party z phase = record { table_id = t; party = party; procs = z.pro
 -- the table's words and slots are those of these numbers of backends, conditions and barriers, and of so many words of the client
 pub record IsTabled (t : TableId) (z : Size) (count : ℕ) : Type 0 where
   pub words : t.words ≡ client_base z + count
-  pub slots : t.slots ≡ z.cvs + z.bars
+  pub slots : t.slots ≡ slots_in z
   pub procs : (0 < z.procs) × (z.procs ≤ 64)
   pub cvs : z.cvs ≤ 160
   pub bars : z.bars ≤ 72

@@ -22,9 +22,9 @@ module _ {C : Type 0} where
   ListAfter k n old new = new.list ≡ old.list
 
   -- the slot that is out with the seat: where it goes home it has already what is left
-  abbrev pub HasSlot : Size → WaitStep → WaitView C → List (ℕ × Kept) → Type 0
-  HasSlot z (Free x target) v c = c ≡ carried z (Free x target) (number_of v.own) v.place
-  HasSlot z k v c = Carries (hand_at v.place) c
+  abbrev pub HasSlot : WaitStep → WaitView C → List (ℕ × Kept) → Type 0
+  HasSlot (Free x target) v c = c ≡ carried (Free x target) (number_of v.own) v.place
+  HasSlot k v c = Carries (hand_at v.place) c
 
 -- a step that may take a spin word in hand, one that frees one, and one that does neither
 abbrev pub IsTaking : WaitStep → Type 0

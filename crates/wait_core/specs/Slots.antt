@@ -1,5 +1,6 @@
 -- What the slots keep: each condition's list, and then each barrier's record.
 use Rattle.std.specs.Prelude.{◌≡◌, ℕ, ◌+◌, List, [], ◌∷◌, length, ⊤}
+use Rattle.wait_core.specs.Words.{slots_in}
 use Rattle.wait_core.specs.declared.view.Kept.{Kept}
 use Rattle.wait_core.specs.declared.view.Record.{Record}
 use Rattle.wait_core.specs.declared.view.Size.{Size}
@@ -19,5 +20,5 @@ AllAsOpened phase (k ∷ slots) = IsAsOpened phase k × AllAsOpened phase slots
 
 -- the slots of a new table: one for each condition and each barrier
 pub record OpeningSlots (z : Size) (phase : ℕ) (slots : List Kept) : Type 0 where
-  pub count : length slots ≡ z.cvs + z.bars
+  pub count : length slots ≡ slots_in z
   pub each : AllAsOpened phase slots

@@ -9,11 +9,12 @@ use Rattle.wait_core.specs.declared.view.Kept.{Kept}
 use Rattle.wait_core.specs.declared.view.WaitView.{WaitView}
 use Rattle.seat_roster.specs.Totals.{total}
 use Rattle.seat_roster.specs.Roster.{times}
-use Rattle.wait_core.specs.Jobs.{condition_of}
+use Rattle.wait_core.specs.Words.{slot_of}
+use Rattle.wait_core.specs.Jobs.{spot_of}
 use Rattle.wait_core.specs.Lists.{precedes}
 use Rattle.wait_core.specs.Machine.{Place, home_of}
 
--- a condition whose list is in hand, as it was found
+-- a slot whose list is in hand, as it was found
 pub record Hand : Type 0 where
   pub slot : ℕ
   pub list : List ℕ
@@ -31,7 +32,7 @@ pub record Stance : Type 0 where
   pub pops : Option ℕ
 
 abbrev pub hand_at : Place → Option Hand
-hand_at (Holding j list found ∷ p) = Some record { slot = condition_of j; list = list }
+hand_at (Holding j list found ∷ p) = Some record { slot = slot_of (spot_of j); list = list }
 hand_at p = None
 
 -- whose slot is out

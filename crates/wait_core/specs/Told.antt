@@ -4,10 +4,15 @@ use Rattle.seat_roster.specs.Roster.{times}
 use Rattle.atomic_table.specs.Table.{Me, Step, Allows, Splits, Joins, carried_after}
 use Rattle.wait_core.specs.declared.step.WaitStep.{WaitStep}
 use Rattle.wait_core.specs.declared.step.WaitStep.TheVariants.{Take, Free}
+use Rattle.wait_core.specs.declared.step.Spot.{Spot}
+use Rattle.wait_core.specs.declared.step.Spot.TheVariants.{Cv, Bar}
 use Rattle.wait_core.specs.declared.view.Kept.{Kept}
+use Rattle.wait_core.specs.declared.view.Record.{Record}
 use Rattle.wait_core.specs.declared.view.PartyView.{PartyView}
 use Rattle.wait_core.specs.declared.view.Size.{Size}
 use Rattle.wait_core.specs.declared.view.WaitView.{WaitView}
+use Rattle.wait_core.specs.Meanings.{Meanings}
+use Rattle.wait_core.specs.Parties.{phase_of}
 use Rattle.wait_core.specs.Lists.{is_listed, AllBelow}
 use Rattle.wait_core.specs.Words.{slot_of}
 use Rattle.wait_core.specs.Machine.{number_of, next_with, act_of}
@@ -25,23 +30,37 @@ pub record TellsList (z : Size) (own : ℕ) (belongs : Option ℕ) (x : ℕ) (fo
 
 -- what a step that found n tells of the list that it took in hand
 abbrev pub Tells : Size → WaitStep → ℕ → Option ℕ → ℕ → List ℕ → Type 0
-Tells z (Take x begins) own belongs n found = n ≡ 0 → TellsList z own belongs (slot_of z x) found
+Tells z (Take x begins) own belongs n found = n ≡ 0 → TellsList z own belongs (slot_of x) found
 Tells z k own belongs n found = ⊤
 
+-- who isn't attached finds room for one participant more; who is finds itself counted, and the phase that it knows
+abbrev pub CountsSeat : Option ℕ → Record → Type 0
+CountsSeat None r = r.participants < 64
+CountsSeat (Some ph) r = (1 ≤ r.participants) × (r.phase ≡ ph)
+
+abbrev pub TellsRecord : List (ℕ × ℕ) → Spot → Record → Type 0
+TellsRecord attached (Cv c) r = ⊤
+TellsRecord attached (Bar b) r = CountsSeat (phase_of attached b) r
+
+-- what a step that found n tells of the record that it took in hand
+abbrev pub TellsBarrier : WaitStep → List (ℕ × ℕ) → ℕ → Record → Type 0
+TellsBarrier (Take x begins) attached n found = n ≡ 0 → TellsRecord attached x found
+TellsBarrier k attached n found = ⊤
+
 -- the slot that is out with the seat after a step that found n
-abbrev pub slot_then : Size → WaitStep → ℕ → Option ℕ → Option ℕ
-slot_then z (Take x begins) n out = cond (n == 0) (Some (slot_of z x)) out
-slot_then z (Free x target) n out = None
-slot_then z k n out = out
+abbrev pub slot_then : WaitStep → ℕ → Option ℕ → Option ℕ
+slot_then (Take x begins) n out = cond (n == 0) (Some (slot_of x)) out
+slot_then (Free x target) n out = None
+slot_then k n out = out
 
 module _ {C : Type 0} where
   -- the place after the step knows of it
   abbrev pub HandFollows : Size → WaitStep → WaitView C → ℕ → Kept → Type 0
-  HandFollows z k v n found = slot_in (hand_at (next_with z k v n found).place) ≡ slot_then z k n (slot_in (hand_at v.place))
+  HandFollows z k v n found = slot_in (hand_at (next_with z k v n found).place) ≡ slot_then k n (slot_in (hand_at v.place))
 
   -- a step of the machine that found n: the view goes on as the machine says, what a spin word guards leaves its slot or goes home, and n was 0 or 1
   abbrev pub does : Size → WaitStep → Me Kept (WaitView C) → ℕ → Me Kept (WaitView C) → Type 0
-  does z k m n m' = (found : Kept) × (m'.0 ≡ next_with z k m.0 n found) × (m'.1 ≡ carried_after m.1 (act_of z k n found)) × (n ≤ 1) × Tells z k (number_of m.0.own) (belongs_at m.0.target m.0.place) n found.list.items × HandFollows z k m.0 n found
+  does z k m n m' = (found : Kept) × (m'.0 ≡ next_with z k m.0 n found) × (m'.1 ≡ carried_after m.1 (act_of k n found)) × (n ≤ 1) × Tells z k (number_of m.0.own) (belongs_at m.0.target m.0.place) n found.list.items × TellsBarrier k m.0.attached n found.record × HandFollows z k m.0 n found
 
   -- a step of the client, after which its view is c of the word found, and which told something of it
   abbrev pub does_client : (ℕ → C) → (ℕ → Type 0) → Me Kept (WaitView C) → ℕ → Me Kept (WaitView C) → Type 0
@@ -54,15 +73,15 @@ module _ {C : Type 0} where
   abbrev pub draws : Step Kept → Me Kept (WaitView C) → ℕ → Me Kept (WaitView C) → Type 0
   draws st m n m' = (m'.0 ≡ with_drawn m.0) × (m'.1 ≡ m.1)
 
-  module _ (holds : List ℕ → List (PartyView C) → List ℕ → Type 0) (z : Size) (phase count : ℕ) where
+  module _ (means : Meanings C) (z : Size) (phase count : ℕ) where
     -- whatever the table is when the word becomes f of what it was, the seat goes on as `gives` says
     abbrev pub Turns : ℕ → ℕ → Me Kept (WaitView C) → ℕ → (ℕ → ℕ) → (ℕ → Me Kept (WaitView C) → Type 0) → Type 0
-    Turns slots id me word f gives = Allows (Rule holds z phase count) slots id me word f gives
+    Turns slots id me word f gives = Allows (Rule means z phase count) slots id me word f gives
 
     -- a seat's view is cut in two
     abbrev pub Cuts : ℕ → WaitView C → WaitView C → WaitView C → Type 0
-    Cuts id v left right = Splits {S = Kept} (Rule holds z phase count) id v left right
+    Cuts id v left right = Splits {S = Kept} (Rule means z phase count) id v left right
 
     -- a seat takes in another
     abbrev pub Glues : ℕ → WaitView C → ℕ → WaitView C → WaitView C → WaitView C → Type 0
-    Glues id v other w both spent = Joins {S = Kept} (Rule holds z phase count) id v other w both spent
+    Glues id v other w both spent = Joins {S = Kept} (Rule means z phase count) id v other w both spent

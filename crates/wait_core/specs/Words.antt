@@ -16,23 +16,29 @@ byte_at p = 3 * p + 3
 abbrev pub shut_at : Size → ℕ
 shut_at z = 3 * z.procs + 1
 
--- what a spin word guards lies in the slot of its number: first the conditions' lists, then the barriers' records
-abbrev pub slot_of : Size → Spot → ℕ
-slot_of z (Cv c) = c
-slot_of z (Bar b) = z.cvs + b
+-- What a spin word guards lies in the slot of its number: first the conditions' lists, and behind the most that a table has of them the barriers' records. So a seat knows by its place alone which slot it has out
+abbrev pub most_conditions : ℕ
+most_conditions = 160
+
+abbrev pub slot_of : Spot → ℕ
+slot_of (Cv c) = c
+slot_of (Bar b) = most_conditions + b
+
+abbrev pub slots_in : Size → ℕ
+slots_in z = most_conditions + z.bars
 
 abbrev pub spin_at : Size → ℕ → ℕ
 spin_at z x = 3 * z.procs + 2 + x
 
 abbrev pub client_base : Size → ℕ
-client_base z = 3 * z.procs + 2 + z.cvs + z.bars
+client_base z = 3 * z.procs + 2 + slots_in z
 
 abbrev pub client_words : Size → List ℕ → List ℕ
 client_words z words = drop (client_base z) words
 
--- the phase of each barrier. Until barriers move, each is at the opening phase
-abbrev pub phases : Size → ℕ → List ℕ
-phases z phase = replicate z.bars phase
+-- each barrier's phase at the opening
+abbrev pub opening_phases : Size → ℕ → List ℕ
+opening_phases z phase = replicate z.bars phase
 
 -- the first n numbers that f gives
 abbrev pub opened : (ℕ → ℕ) → ℕ → List ℕ

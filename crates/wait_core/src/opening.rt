@@ -15,11 +15,11 @@ pub(crate) fn opening_row<P: Party>(
     size: Size,
     count: u32,
 ) -> Result<Vec<u64>, AllocError>
-    requires size { (size.procs ≤ 64) × (size.cvs ≤ 160) × (size.bars ≤ 72) }
+    requires size { (size.procs ≤ 64) × (size.bars ≤ 72) }
     requires count { count ≡ P.word_count party.now }
     ensures { IfOk result (λ v. v.items ≡ opening_words size (P.opens party.now) count) }
 {
-    let machine = 3 * size.procs as usize + 2 + size.cvs as usize + size.bars as usize;
+    let machine = 3 * size.procs as usize + 2 + size.slots() as usize;
     let mut row = vec![in alloc; 0; machine]?;
     row[0] = 1;
     for at in 0..count {
@@ -34,7 +34,7 @@ pub(crate) fn opening_homes(
     size: Size,
     opening_phase: u64,
 ) -> Result<Vec<Kept>, AllocError>
-    requires size { (size.cvs ≤ 160) × (size.bars ≤ 72) }
+    requires size { size.bars ≤ 72 }
     ensures { IfOk result (λ v. OpeningSlots size opening_phase v.items) }
 {
     let record = Record {
@@ -44,7 +44,7 @@ pub(crate) fn opening_homes(
         elected: opening_phase,
     };
     let mut homes = Vec::new(alloc);
-    for _ in 0..size.cvs + size.bars {
+    for _ in 0..size.slots() {
         homes.push(Kept {
             list: ArrayVec::new(),
             record,

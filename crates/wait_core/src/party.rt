@@ -3,6 +3,7 @@ ghost use Rattle.std.specs.Prelude.{◌≡◌, ℕ, suc, ◌<◌, List, ◌∷�
 ghost use Rattle.wait_core.specs.declared.view.PartyView.{PartyView};
 ghost use Rattle.wait_core.specs.declared.party.ClientOp.{ClientOp};
 ghost use Rattle.wait_core.specs.Ops.{op_at, op_gives, op_writes};
+ghost use Rattle.wait_core.specs.Meanings.{Meanings};
 ghost use Rattle.wait_core.specs.Parties.{now, with_client, newcomer, joined, left_over, elected, IsStep, IsDraw, IsJoin, IsEnter, IsNotice, IsElection, IsPass, IsLeave};
 
 /// One operation on one of the client's words.
@@ -68,20 +69,8 @@ pub trait Party: Sync {
     // The client view after a step and the word that it found.
     ghost after: { Self → PartyView Self.View → Self.Step → ℕ → Self.View };
 
-    // The law, of the client's words, the views of the seats, and each barrier's phase.
-    ghost holds: { Self → List ℕ → List (PartyView Self.View) → List ℕ → Type 0 };
-
-    // The view has nothing left to do at the barrier in the phase.
-    ghost quiet: { Self → PartyView Self.View → ℕ → ℕ → Type 0 };
-
-    // The barrier's phase may ever be passed.
-    ghost passes: { Self → ℕ → ℕ → Type 0 };
-
-    // The view may attach to the barrier.
-    ghost enters: { Self → PartyView Self.View → ℕ → Type 0 };
-
-    // In the barrier's phase a seat may leave only while another is attached.
-    ghost stays: { Self → ℕ → ℕ → Type 0 };
+    // Its law, and what its barriers ask of it.
+    ghost means: { Self → Meanings Self.View };
 
     /// How many words it has.
     fn words(&self) -> u32
@@ -99,25 +88,25 @@ pub trait Party: Sync {
     // An allowed step names a word of the client's, and keeps its law.
     ghost step_inside: { (p : Self) (v : PartyView Self.View) (step : Self.Step) → may p v step → op_at (does p step) < word_count p };
 
-    ghost step_keeps: { (p : Self) (words : List ℕ) (views : List (PartyView Self.View)) (phases : List ℕ) (id : ℕ) (v : PartyView Self.View) (step : Self.Step) → holds p words views phases → IsStep views phases id v → may p v step → let n = slice_index words (op_at (does p step)) in holds p (slice_set words (op_at (does p step)) (op_gives (does p step) n)) (slice_set views id (with_client v (after p v step n))) phases };
+    ghost step_keeps: { (p : Self) (words : List ℕ) (views : List (PartyView Self.View)) (phases : List ℕ) (id : ℕ) (v : PartyView Self.View) (step : Self.Step) → (means p).holds words views phases → IsStep views phases id v → may p v step → let n = slice_index words (op_at (does p step)) in (means p).holds (slice_set words (op_at (does p step)) (op_gives (does p step) n)) (slice_set views id (with_client v (after p v step n))) phases };
 
     // A seat that is drawn keeps it, and one that is joined into another.
-    ghost draw_keeps: { (p : Self) (words : List ℕ) (views : List (PartyView Self.View)) (phases : List ℕ) (proc : ℕ) → holds p words views phases → IsDraw views phases proc → holds p words (views ++ newcomer (first p) (Some proc) ∷ []) phases };
+    ghost draw_keeps: { (p : Self) (words : List ℕ) (views : List (PartyView Self.View)) (phases : List ℕ) (proc : ℕ) → (means p).holds words views phases → IsDraw views phases proc → (means p).holds words (views ++ newcomer (first p) (Some proc) ∷ []) phases };
 
-    ghost join_keeps: { (p : Self) (words : List ℕ) (views : List (PartyView Self.View)) (phases : List ℕ) (id other : ℕ) (v w : PartyView Self.View) → holds p words views phases → IsJoin views phases id v other w → holds p words (slice_set (slice_set views id (joined both v w)) other (left_over spent)) phases };
+    ghost join_keeps: { (p : Self) (words : List ℕ) (views : List (PartyView Self.View)) (phases : List ℕ) (id other : ℕ) (v w : PartyView Self.View) → (means p).holds words views phases → IsJoin views phases id v other w → (means p).holds words (slice_set (slice_set views id (joined both v w)) other (left_over spent)) phases };
 
     // A seat that attaches keeps it, one that finds that its phase has passed, and one that gains an election.
-    ghost enter_keeps: { (p : Self) (words : List ℕ) (views : List (PartyView Self.View)) (phases : List ℕ) (id : ℕ) (v w : PartyView Self.View) (bar : ℕ) → holds p words views phases → IsEnter views phases id v w bar → enters p v bar → holds p words (slice_set views id w) phases };
+    ghost enter_keeps: { (p : Self) (words : List ℕ) (views : List (PartyView Self.View)) (phases : List ℕ) (id : ℕ) (v w : PartyView Self.View) (bar : ℕ) → (means p).holds words views phases → IsEnter views phases id v w bar → (means p).enters v bar → (means p).holds words (slice_set views id w) phases };
 
-    ghost notice_keeps: { (p : Self) (words : List ℕ) (views : List (PartyView Self.View)) (phases : List ℕ) (id : ℕ) (v w : PartyView Self.View) (bar ph : ℕ) → holds p words views phases → IsNotice views phases id v w bar ph → quiet p v bar ph → holds p words (slice_set views id w) phases };
+    ghost notice_keeps: { (p : Self) (words : List ℕ) (views : List (PartyView Self.View)) (phases : List ℕ) (id : ℕ) (v w : PartyView Self.View) (bar ph : ℕ) → (means p).holds words views phases → IsNotice views phases id v w bar ph → (means p).quiet v bar ph → (means p).holds words (slice_set views id w) phases };
 
-    ghost elect_keeps: { (p : Self) (words : List ℕ) (views : List (PartyView Self.View)) (phases : List ℕ) (id : ℕ) (v : PartyView Self.View) (bar ph : ℕ) → holds p words views phases → IsElection views phases id v bar ph → holds p words (slice_set views id (elected v bar ph)) phases };
+    ghost elect_keeps: { (p : Self) (words : List ℕ) (views : List (PartyView Self.View)) (phases : List ℕ) (id : ℕ) (v : PartyView Self.View) (bar ph : ℕ) → (means p).holds words views phases → IsElection views phases id v bar ph → (means p).holds words (slice_set views id (elected v bar ph)) phases };
 
     // A phase that passes, while each seat that is attached is quiet in it.
-    ghost pass_keeps: { (p : Self) (words : List ℕ) (views : List (PartyView Self.View)) (phases : List ℕ) (bar id : ℕ) (v : PartyView Self.View) → holds p words views phases → IsPass (quiet p) views phases bar id v → passes p bar (now phases bar) → holds p words views (slice_set phases bar (suc (now phases bar))) };
+    ghost pass_keeps: { (p : Self) (words : List ℕ) (views : List (PartyView Self.View)) (phases : List ℕ) (bar id : ℕ) (v : PartyView Self.View) → (means p).holds words views phases → IsPass ((means p).quiet) views phases bar id v → (means p).passes bar (now phases bar) → (means p).holds words views (slice_set phases bar (suc (now phases bar))) };
 
     // A quiet seat that detaches.
-    ghost leave_keeps: { (p : Self) (words : List ℕ) (views : List (PartyView Self.View)) (phases : List ℕ) (id : ℕ) (v w : PartyView Self.View) (bar ph : ℕ) → holds p words views phases → IsLeave (stays p) views phases id v w bar ph → quiet p v bar ph → holds p words (slice_set views id w) phases };
+    ghost leave_keeps: { (p : Self) (words : List ℕ) (views : List (PartyView Self.View)) (phases : List ℕ) (id : ℕ) (v w : PartyView Self.View) (bar ph : ℕ) → (means p).holds words views phases → IsLeave ((means p).stays) views phases id v w bar ph → (means p).quiet v bar ph → (means p).holds words (slice_set views id w) phases };
 }
 
 /// A client with no word, whose law always holds.
@@ -148,15 +137,7 @@ impl Party for NoParty {
 
     ghost after = { λ _ _ _ _. tt };
 
-    ghost holds = { λ _ _ _ _. ⊤ };
-
-    ghost quiet = { λ _ _ _ _. ⊤ };
-
-    ghost passes = { λ _ _ _. ⊤ };
-
-    ghost enters = { λ _ _ _. ⊤ };
-
-    ghost stays = { λ _ _ _. ⊥ };
+    ghost means = { λ _. record { holds = λ _ _ _. ⊤; quiet = λ _ _ _. ⊤; passes = λ _ _. ⊤; enters = λ _ _. ⊤; stays = λ _ _. ⊥ } };
 
     ghost step_inside = { λ p v step h. absurd h };
 

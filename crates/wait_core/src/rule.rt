@@ -25,7 +25,7 @@ impl<P: Party> TableRule<Kept, WaitView<P::View>, About<P>> for WaitRule<P> {
     ghost use Rattle.wait_core.specs.Rule.{Rule};
     ghost use Rattle.wait_core.specs.Seating.{fresh};
 
-    ghost holds = { λ a s. Rule (P.holds a.party) a.size a.phase a.count s };
+    ghost holds = { λ a s. Rule (P.means a.party) a.size a.phase a.count s };
 
     ghost first = { λ a. fresh (P.first a.party) (Some 0) };
 }

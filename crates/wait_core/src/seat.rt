@@ -1,9 +1,10 @@
 //! A seat at a table.
 ghost use Rattle.std.specs.Prelude.{◌≡◌, [], None, Some};
 ghost use Rattle.std.specs.Borrow.{sem, Lends};
-ghost use Rattle.wait_core.specs.Lending.{with_list};
+ghost use Rattle.wait_core.specs.Lending.{with_list, with_record};
 ghost use Rattle.wait_core.specs.Seats.{IsSeated, seat_view};
 ghost use Rattle.wait_core.specs.contracts.seat.WaitList as list_row;
+ghost use Rattle.wait_core.specs.contracts.view.Record as record_row;
 ghost use Rattle.wait_core.specs.contracts.seat.WaitSeat.{the_row};
 
 use crate::party::Party;
@@ -85,5 +86,14 @@ impl<P: Party> WaitSeat<P> {
         ensures value { result.now.items.items ≡ self.old.list }
     {
         &mut self.list
+    }
+
+    /// The barrier's record that the seat has in hand, as it was found and as the seat changed it
+    /// since.
+    pub fn record_mut(&mut self) -> &mut Record
+        ensures* lends { sem 𝓛 (Lends (the_row P.row P.Step.row P.View.row P.Party) record_row.the_row self.entry result (with_record self.old)) }
+        ensures value { result.now ≡ self.old.record }
+    {
+        &mut self.found
     }
 }

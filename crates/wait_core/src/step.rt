@@ -1,7 +1,8 @@
 //! The kinds of step on a word, and the calls that they make up.
 ghost use Rattle.std.specs.Prelude.{◌≡◌, ℕ};
 ghost use Rattle.wait_core.specs.Ops.{op_gives};
-ghost use Rattle.wait_core.specs.Machine.{becomes, writes, step_spot, target_then};
+ghost use Rattle.wait_core.specs.Words.{slot_of};
+ghost use Rattle.wait_core.specs.Machine.{becomes, writes, slot_number, target_then};
 
 use crate::party::ClientOp;
 use proc_table::{BarNo, CvNo, ProcNo};
@@ -11,6 +12,18 @@ use proc_table::{BarNo, CvNo, ProcNo};
 pub enum Spot {
     Cv(CvNo),
     Bar(BarNo),
+}
+
+impl Spot {
+    // The slot of what it guards: those of conditions come first, as many as a table may have.
+    fn slot(self) -> usize
+        ensures { result ≡ slot_of self }
+    {
+        match self {
+            Spot::Cv(condition) => condition.number() as usize,
+            Spot::Bar(barrier) => 160 + barrier.number() as usize,
+        }
+    }
 }
 
 /// What ends a wait on the own latch.
@@ -46,6 +59,10 @@ pub enum Call {
     Signal(CvNo),
     /// Wakes all that are on the list (`ConditionVariableBroadcast`).
     Broadcast(CvNo),
+    /// Attaches to the barrier (`BarrierAttach`).
+    Attach(BarNo),
+    /// Leaves the barrier, whose phase doesn't pass by that (`BarrierDetach`).
+    Detach(BarNo),
 }
 
 /// One step on one word. A kind that can be the first step of a call carries the call that it
@@ -88,13 +105,13 @@ pub struct WaitSeen {
 }
 
 impl WaitStep {
-    // The spin word that the step is on.
-    pub(crate) fn spot(self) -> Option<Spot>
-        ensures { result ≡ step_spot self }
+    // The slot of what its spin word guards.
+    pub(crate) fn slot(self) -> usize
+        ensures { result ≡ slot_number self }
     {
         match self {
-            WaitStep::Take(spot, _) | WaitStep::Spin(spot) | WaitStep::Free(spot, _) => Some(spot),
-            _ => None,
+            WaitStep::Take(spot, _) | WaitStep::Spin(spot) | WaitStep::Free(spot, _) => spot.slot(),
+            _ => 0,
         }
     }
 

@@ -1,12 +1,13 @@
 //! A table and the calls on it.
 ghost use Rattle.std.specs.Prelude.{◌≡◌, ◌<◌, ◌≤◌, ◌+◌, ◌^◌, None, Some, [], ◌∷◌, IfOk, MatchResult, length, true};
 ghost use Rattle.wait_core.specs.Ops.{op_at, op_gives, op_writes};
-ghost use Rattle.wait_core.specs.Words.{client_base, opened, phases, set_at, may_at, byte_at, shut_at, slot_of, opening_words};
-ghost use Rattle.wait_core.specs.Machine.{word_of, writes, as_kept, next_with, number_of, slot_number, Allowed, top};
+ghost use Rattle.wait_core.specs.Words.{client_base, opened, opening_phases, set_at, may_at, byte_at, shut_at, opening_words};
+ghost use Rattle.wait_core.specs.Machine.{word_of, writes, as_kept, next_with, number_of, Allowed, top};
 ghost use Rattle.wait_core.specs.Parties.{newcomer};
 ghost use Rattle.wait_core.specs.Places.{is_asleep};
 ghost use Rattle.wait_core.specs.Seating.{party_of, fresh, client_moved, after_draw, stays, took_in};
-ghost use Rattle.wait_core.specs.Told.{Tells, Turns, Cuts};
+ghost use Rattle.wait_core.specs.Told.{Tells, TellsBarrier, Turns, Cuts};
+ghost use Rattle.wait_core.specs.Barriers.{StepSuits};
 ghost use Rattle.wait_core.specs.Stances.{belongs_at};
 ghost use Rattle.wait_core.specs.Sending.{SendsHome, ListAfter, IsTaking, IsFreeing, IsApart};
 ghost use Rattle.wait_core.specs.Closing.{Ends, Stood};
@@ -17,7 +18,7 @@ use crate::opening::{opening_homes, opening_row};
 use crate::party::{ClientOp, Party};
 use crate::rule::{About, Coming, Does, Doing, Draws, Newcomer, TakesIn, WaitRule};
 use crate::seat::WaitSeat;
-use crate::step::{Spot, WaitSeen, WaitStep};
+use crate::step::{WaitSeen, WaitStep};
 use crate::view::{Kept, Size, WaitView};
 use arrayvec::ArrayVec;
 use atomic_table::{Seat, Table};
@@ -66,7 +67,7 @@ impl<P: Party> WaitTable<P> {
         requires cvs { (0 < cvs) × (cvs ≤ 160) }
         requires bars { (0 < bars) × (bars ≤ 72) × (bars ≤ cvs) }
         requires phase { opening_phase ≤ 2 ^ 62 }
-        requires opening { P.holds party (opened (P.opens party) (P.word_count party)) (newcomer (P.first party) (Some 0) ∷ []) (phases (record { procs = procs; cvs = cvs; bars = bars }) opening_phase) }
+        requires opening { (P.means party).holds (opened (P.opens party) (P.word_count party)) (newcomer (P.first party) (Some 0) ∷ []) (opening_phases (record { procs = procs; cvs = cvs; bars = bars }) opening_phase) }
         ensures table { IfOk result (λ t. (t.0.party ≡ party) × (t.0.procs ≡ procs) × (t.0.cvs ≡ cvs) × (t.0.bars ≡ bars) × (t.0.phase ≡ opening_phase)) }
         ensures seat { IfOk result (λ t. (t.1.table_id ≡ t.0.table_id) × (t.1.view ≡ fresh (P.first party) (Some 0))) }
     {
@@ -135,6 +136,7 @@ impl<P: Party> WaitTable<P> {
     pub fn step(&self, seat: &mut WaitSeat<P>, step: WaitStep) -> WaitSeen
         requires table { seat.old.table_id ≡ self.now.table_id }
         requires place { Allowed (size_of self.now) step seat.old.view }
+        requires client { StepSuits (P.means self.now.party) step seat.old.view }
         requires hand { SendsHome step seat.old }
         ensures table { (seat.new.table_id ≡ seat.old.table_id) × (seat.new.id ≡ seat.old.id) }
         ensures view { seat.new.view ≡ next_with (size_of self.now) step seat.old.view result.old (as_kept seat.new.list seat.new.record) }
@@ -142,6 +144,7 @@ impl<P: Party> WaitTable<P> {
         ensures changed { result.changed ≡ writes step }
         ensures told { result.old ≤ 1 }
         ensures list { Tells (size_of self.now) step (number_of seat.old.view.own) (belongs_at seat.old.view.target seat.old.view.place) result.old seat.new.list }
+        ensures barrier { TellsBarrier step seat.old.view.attached result.old seat.new.record }
     {
         let changed = step.writes();
         let old = match &step {
@@ -158,14 +161,16 @@ impl<P: Party> WaitTable<P> {
         requires table { seat.old.table_id ≡ self.now.table_id }
         requires step { IsTaking step }
         requires place { Allowed (size_of self.now) step seat.old.view }
+        requires client { StepSuits (P.means self.now.party) step seat.old.view }
         ensures table { (seat.new.table_id ≡ seat.old.table_id) × (seat.new.id ≡ seat.old.id) }
         ensures view { seat.new.view ≡ next_with (size_of self.now) step seat.old.view result (as_kept seat.new.list seat.new.record) }
         ensures hand { ListAfter step result seat.old seat.new }
         ensures told { result ≤ 1 }
         ensures list { Tells (size_of self.now) step (number_of seat.old.view.own) (belongs_at seat.old.view.target seat.old.view.place) result seat.new.list }
+        ensures barrier { TellsBarrier step seat.old.view.attached result seat.new.record }
     {
         let _ = &self.table;
-        let slot = self.slot_number(step);
+        let slot = step.slot();
         let word = self.step_word(step, seat.number);
         let old = self.make::<Brand, WaitStep>(&mut seat.seat, word, step.op(), &step);
         if old == 0 {
@@ -191,7 +196,7 @@ impl<P: Party> WaitTable<P> {
         ensures hand { ListAfter step result seat.old seat.new }
         ensures told { result ≤ 1 }
     {
-        let slot = self.slot_number(step);
+        let slot = step.slot();
         let kept = Kept {
             list: mem::replace(&mut seat.list.items, ArrayVec::new()),
             record: seat.found,
@@ -230,7 +235,7 @@ impl<P: Party> WaitTable<P> {
         requires may { P.may self.now.party (party_of seat.old.view) step }
         ensures table { (seat.new.table_id ≡ seat.old.table_id) × (seat.new.id ≡ seat.old.id) }
         ensures view { seat.new.view ≡ client_moved seat.old.view (P.after self.now.party (party_of seat.old.view) step result.old) }
-        ensures stood { Stood (P.holds self.now.party) (P.word_count self.now.party) self.now seat.old.id seat.old.view (op_at (P.does self.now.party step)) result.old }
+        ensures stood { Stood (P.means self.now.party) (P.word_count self.now.party) self.now seat.old.id seat.old.view (op_at (P.does self.now.party step)) result.old }
         ensures changed { result.changed ≡ op_writes (P.does self.now.party step) result.old }
     {
         let op = self.about.party.op(step);
@@ -280,7 +285,7 @@ impl<P: Party> WaitTable<P> {
         P: Drop,
         requires table { seat.table_id ≡ self.table_id }
         requires free { (seat.view.place ≡ []) × (seat.view.target ≡ None) × (seat.view.attached ≡ []) }
-        ensures ends { Ends (P.holds self.party) (P.word_count self.party) self seat result }
+        ensures ends { Ends (P.means self.party) (P.word_count self.party) self seat result }
         ensures size { length result ≡ P.word_count self.party }
     {
         let base = self.client_word(0);
@@ -308,7 +313,7 @@ impl<P: Party> WaitTable<P> {
         _why: &X,
     ) -> u64
         requires table { (seat.old.table_id ≡ self.now.table_id) × (word < self.now.table_id.words) }
-        requires told { Turns (P.holds self.now.party) (size_of self.now) self.now.phase (P.word_count self.now.party) self.now.table_id.slots seat.old.id seat.old.me word (op_gives op) M.gives }
+        requires told { Turns (P.means self.now.party) (size_of self.now) self.now.phase (P.word_count self.now.party) self.now.table_id.slots seat.old.id seat.old.me word (op_gives op) M.gives }
         ensures table { (seat.new.table_id ≡ seat.old.table_id) × (seat.new.id ≡ seat.old.id) }
         ensures told { M.gives result seat.new.me }
     {
@@ -329,7 +334,7 @@ impl<P: Party> WaitTable<P> {
         seat: &mut Seat<Kept, WaitView<P::View>>,
     ) -> Seat<Kept, WaitView<P::View>>
         requires table { (seat.old.table_id ≡ self.now.table_id) × (0 < self.now.table_id.words) }
-        requires rule { Cuts (P.holds self.now.party) (size_of self.now) self.now.phase (P.word_count self.now.party) seat.old.id seat.old.me.0 (stays seat.old.me.0) (M.right seat.old.me.0) }
+        requires rule { Cuts (P.means self.now.party) (size_of self.now) self.now.phase (P.word_count self.now.party) seat.old.id seat.old.me.0 (stays seat.old.me.0) (M.right seat.old.me.0) }
         ensures kept { (seat.new.table_id ≡ seat.old.table_id) × (seat.new.id ≡ seat.old.id) × (seat.new.me ≡ (stays seat.old.me.0, seat.old.me.1)) }
         ensures given { (result.table_id ≡ seat.old.table_id) × (result.me ≡ (M.right seat.old.me.0, [])) }
     {
@@ -341,7 +346,7 @@ impl<P: Party> WaitTable<P> {
         ensures { result ≡ client_base (size_of self.now) + at }
     {
         let size = &self.about.size;
-        3 * size.procs as usize + 2 + size.cvs as usize + size.bars as usize + at as usize
+        3 * size.procs as usize + 2 + size.slots() as usize + at as usize
     }
 
     // The word that the step of the backend `own` is on.
@@ -358,27 +363,8 @@ impl<P: Party> WaitTable<P> {
             WaitStep::Look | WaitStep::Drain => 3 * own + 3,
             WaitStep::Shload(_) | WaitStep::Shstore(_) => 3 * self.about.size.procs as usize + 1,
             WaitStep::Take(..) | WaitStep::Spin(_) | WaitStep::Free(..) => {
-                3 * self.about.size.procs as usize + 2 + self.slot_number(step)
+                3 * self.about.size.procs as usize + 2 + step.slot()
             }
-        }
-    }
-
-    // The slot of what the step's spin word guards.
-    fn slot_number(&self, step: WaitStep) -> usize
-        ensures { result ≡ slot_number (size_of self.now) step }
-    {
-        match step.spot() {
-            Some(spot) => self.slot_of(spot),
-            None => 0,
-        }
-    }
-
-    fn slot_of(&self, spot: Spot) -> usize
-        ensures { result ≡ slot_of (size_of self.now) spot }
-    {
-        match spot {
-            Spot::Cv(condition) => condition.number() as usize,
-            Spot::Bar(barrier) => self.about.size.cvs as usize + barrier.number() as usize,
         }
     }
 }

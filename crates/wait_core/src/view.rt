@@ -1,9 +1,12 @@
 //! What a seat knows. Values of `Job`, `Frame`, `Made`, `Inherited`, `PartyView` and `WaitView`
 //! stand in contracts alone: the program makes none.
 
+ghost use Rattle.std.specs.Prelude.{◌≡◌, ◌≤◌};
+ghost use Rattle.wait_core.specs.Words.{slots_in};
+
 use crate::step::{Until, WaitStep};
 use arrayvec::ArrayVec;
-use proc_table::{CvNo, ProcNo};
+use proc_table::{BarNo, CvNo, ProcNo};
 use std::collections::LinkedList;
 
 /// How many backends, conditions and barriers a table has.
@@ -12,6 +15,16 @@ pub struct Size {
     pub procs: u32,
     pub cvs: u32,
     pub bars: u32,
+}
+
+impl Size {
+    // How many slots it has.
+    pub(crate) fn slots(self) -> u32
+        requires { self.bars ≤ 72 }
+        ensures { result ≡ slots_in self }
+    {
+        160 + self.bars
+    }
 }
 
 /// What a spin word is taken for.
@@ -29,6 +42,10 @@ pub enum Job {
     Broadcast(CvNo),
     /// The next is popped, until the sentinel is off the list.
     Rebroadcast(CvNo),
+    /// The barrier has one participant more, and the backend is attached to it.
+    Attach(BarNo),
+    /// It has one less, and the backend isn't attached to it any more.
+    Detach(BarNo),
 }
 
 /// What is still to be done of a call. A seat's place is a stack of these, the innermost first.

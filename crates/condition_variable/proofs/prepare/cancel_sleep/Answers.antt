@@ -14,7 +14,7 @@ pub leave_target-requires-clause-target : goal.leave_target-requires-clause-targ
 leave_target-requires-clause-target g c = let at = sym c.target.ensures ∙ c.in-Some.is in λ _ _. (at, c.requires.target c.in-Some.target at)
 
 pub leave_target-requires-clause-place : goal.leave_target-requires-clause-place
-leave_target-requires-clause-place g c = let at = sym c.target.ensures ∙ c.in-Some.is in let inside = c.requires.target c.in-Some.target at in λ _ _. (omega (arith, inside), ap spot_for (cancel_first c.args.seat.now.view.target ∙ at), tt, c.requires.place)
+leave_target-requires-clause-place g c = let at = sym c.target.ensures ∙ c.in-Some.is in let inside = c.requires.target c.in-Some.target at in λ _ _. (omega (arith, inside), cancel_first c.args.seat.now.view.target ∙ ap spot_for at, tt, c.requires.place)
 
 pub leave_target-requires-clause-job : goal.leave_target-requires-clause-job
 leave_target-requires-clause-job g c = let at = sym c.target.ensures ∙ c.in-Some.is in λ _ _. ap (λ (o : Option ℕ). top (entering (Some call.Cancel) o c.args.seat.now.view.place)) at

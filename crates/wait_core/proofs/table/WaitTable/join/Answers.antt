@@ -19,8 +19,8 @@ join_seat-requires g c =
       search rules,
       no_slot (hand_at from.me.0.place) from.me.1 c.from.invariant.carries (ap hand_at still),
       omega arith,
-      for_same _ _ c.self.invariant.0 (λ a. Glues (g.P.Party.holds a.party) a.size a.phase a.count into.id into.me.0 from.id from.me.0 (took_in g.P.Party.both into.me.0 from.me.0) (spent_view g.P.Party.spent))
-          (glues_allowed (g.P.Party.holds about.party) about.size about.phase about.count into.id into.me.0 c.into.inside.number c.into.invariant.own from.id from.me.0
+      for_same _ _ c.self.invariant.0 (λ a. Glues (g.P.Party.means a.party) a.size a.phase a.count into.id into.me.0 from.id from.me.0 (took_in g.P.Party.both into.me.0 from.me.0) (spent_view g.P.Party.spent))
+          (glues_allowed (g.P.Party.means about.party) about.size about.phase about.count into.id into.me.0 c.into.inside.number c.into.invariant.own (ap (λ (t : _). t.view.place) c.into.view_is ∙ c.requires.into) from.id from.me.0
           still (ap (λ (t : _). t.view.target) c.from.view_is ∙ c.requires.free.1, ap (λ (t : _). t.view.attached) c.from.view_is ∙ c.requires.free.2) c.from.invariant.settled g.P.Party.both g.P.Party.spent
           (λ words views phases kept at. laws.join_keeps about.party words views phases _ _ _ _ kept at)),
     )

@@ -1,10 +1,10 @@
-use Rattle.std.proofs.Common.{◌<◌, ◌+◌, ℕ, ap, sym, ◌∙◌, subst}
+use Rattle.std.proofs.Common.{arith, ◌<◌, ◌+◌, ℕ, ap, sym, ◌∙◌, subst}
 use Rattle.wait_core.specs.Seats.{size_of}
 use Rattle.wait_core.specs.Words.{byte_at, client_base}
 use Rattle.wait_core.specs.Machine.{Allowed, Permits}
 use Rattle.wait_core.proofs.Asks.{step_turns}
 use Rattle.wait_core.proofs.RuleKept.{word_below}
-use Rattle.wait_core.proofs.SeatLemmas.{apart_slot, seated_apart}
+use Rattle.wait_core.proofs.SeatLemmas.{apart_suits, apart_slot, seated_apart}
 use Rattle.wait_core.proofs.table.WaitTable.step_apart.Goals as goal
 
 pub make-old-requires-clause-table : goal.make-old-requires-clause-table
@@ -16,7 +16,7 @@ make-old-requires-clause-table g c κs within =
     let mine = subst (λ x. Permits (size_of t) c.args.step x seat.me.0.target seat.me.0.place) c.seat.invariant.own ok in (
       id,
       subst (λ (n : ℕ). n < t.table_id.words) (sym c.step_word-word.ensures)
-          (word_below (size_of t) c.seat.inside.number c.self.inside.about.count t.table_id.words c.args.step seat.me.0.target seat.me.0.place (subst (λ v. byte_at c.seat.inside.number < v.words) id c.seat.invariant.inside)
+          (word_below (size_of t) c.seat.inside.number c.self.inside.about.count t.table_id.words c.args.step (let few = c.self.invariant.1.cvs in let same = ap (λ v. v.cvs) c.self.view_is in omega arith) seat.me.0.target seat.me.0.place (subst (λ v. byte_at c.seat.inside.number < v.words) id c.seat.invariant.inside)
           (ap (λ v. v.table_id.words) (sym c.self.view_is) ∙ (c.self.invariant.1.words ∙ ap (λ v. client_base (size_of v) + c.self.inside.about.count) c.self.view_is)) mine),
     )
 
@@ -24,8 +24,9 @@ pub make-old-requires-clause-told : goal.make-old-requires-clause-told
 make-old-requires-clause-told g c κs within =
     let t = c.args.self.now in
     let seat = c.seat.inside.seat in
-    step_turns (g.P.Party.holds t.party) (size_of t) t.phase (g.P.Party.word_count t.party) t.table_id.slots seat.id seat.me c.step_word-word.result c.seat.inside.number c.args.step c.op.result c.step_word-word.ensures c.op.ensures c.seat.invariant.own
-    (subst (λ v. Allowed (size_of t) c.args.step v.view) (sym c.seat.view_is) c.requires.place) (apart_slot (size_of t) c.args.step seat.me.0 seat.me.1 c.requires.apart c.seat.invariant.carries)
+    let laws = g.met.P.Party g.world.𝓛 g.world.𝓜 g.world.𝓡 ((λ s x. x), (λ x. x), (λ x. x), λ x. x) in
+    step_turns (g.P.Party.means t.party) (size_of t) t.phase (g.P.Party.word_count t.party) (record { enter = laws.enter_keeps t.party; leave = laws.leave_keeps t.party }) t.table_id.slots seat.id seat.me c.step_word-word.result c.seat.inside.number c.args.step c.op.result c.step_word-word.ensures c.op.ensures c.seat.invariant.own
+    (subst (λ v. Allowed (size_of t) c.args.step v.view) (sym c.seat.view_is) c.requires.place) (apart_suits (g.P.Party.means t.party) c.args.step seat.me.0 c.requires.apart) (apart_slot (size_of t) c.args.step seat.me.0 seat.me.1 c.requires.apart c.seat.invariant.carries)
 
 pub invariant_of-seat : goal.invariant_of-seat
 invariant_of-seat g c =

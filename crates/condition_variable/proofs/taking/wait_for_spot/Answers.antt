@@ -1,22 +1,22 @@
 use Rattle.std.proofs.Common.{true, List, [], ◌∷◌, ◌++◌, None, refl, sym, ap, ◌∙◌, subst, arith}
 use Rattle.wait_core.specs.Seats.{size_of}
-use Rattle.wait_core.specs.declared.step.Spot.TheVariants.{Cv}
+use Rattle.wait_core.specs.Words.{slot_of}
 use Rattle.wait_core.specs.declared.step.WaitStep.TheVariants.{Take}
 use Rattle.wait_core.specs.declared.view.WaitView.{WaitView}
 use Rattle.wait_core.specs.declared.view.Made.{Made}
 use Rattle.wait_core.specs.Machine.{MaySpin, Permits, as_kept, made, number_of, spun, top}
 use Rattle.wait_core.specs.Stances.{belongs_at}
-use Rattle.wait_core.specs.Told.{TellsList}
+use Rattle.wait_core.specs.Told.{TellsList, TellsRecord}
 use Rattle.latch.specs.Reads.{went}
 use Rattle.latch.proofs.Walks.{went_through}
 use Rattle.condition_variable.proofs.Walks.{went_none, swaps_on, spins_append, may_take_again, taken_still, swapped_set}
-use Rattle.condition_variable.proofs.list.wait_for_list.Goals as goal
+use Rattle.condition_variable.proofs.taking.wait_for_spot.Goals as goal
 
 pub loop-init : goal.loop-init
 loop-init g c = (refl, refl, ([], went_none c.args.seat.now.view, tt))
 
 pub spin-requires-clause-place : goal.spin-requires-clause-place
-spin-requires-clause-place g c = λ _ _. subst (λ (y : WaitView _). MaySpin (Cv c.args.cv) (top y.place)) (sym c.loop.invariant.2.1) c.requires.place
+spin-requires-clause-place g c = λ _ _. subst (λ (y : WaitView _). MaySpin c.args.spot (top y.place)) (sym c.loop.invariant.2.1) c.requires.place
 
 pub step-requires-clause-place : goal.step-requires-clause-place
 step-requires-clause-place g c =
@@ -24,7 +24,7 @@ step-requires-clause-place g c =
     let inv = c.loop.invariant.2 in
     let spins = c.spin.ensures.view in
     let at = went_through v _ _ _ (spun true v.place) inv.0 spins.0 inv.1 (spins.1 ∙ ap (λ (y : WaitView _). went c.loop.seat.view (spun true y.place) spins.0) inv.1) in
-    λ _ _. subst (λ (y : WaitView _). Permits (size_of c.args.table.now) (Take (Cv c.args.cv) None) y.own y.target y.place) (sym at) (omega (arith, c.requires.condition), may_take_again (Cv c.args.cv) v.place c.requires.place)
+    λ _ _. subst (λ (y : WaitView _). Permits (size_of c.args.table.now) (Take c.args.spot None) y.own y.target y.place) (sym at) (c.requires.spot, may_take_again c.args.spot v.place c.requires.place)
 
 pub returns-then-step-eq0-clause-view : goal.returns-then-step-eq0-clause-view
 returns-then-step-eq0-clause-view g c =
@@ -32,7 +32,7 @@ returns-then-step-eq0-clause-view g c =
     let inv = c.loop.invariant.2 in
     let spins = c.spin.ensures.view in
     let at = went_through v _ _ _ (spun true v.place) inv.0 spins.0 inv.1 (spins.1 ∙ ap (λ (y : WaitView _). went c.loop.seat.view (spun true y.place) spins.0) inv.1) in
-    (inv.0 ++ spins.0, swaps_on (size_of c.args.table.now) v _ _ (spun true v.place) (inv.0 ++ spins.0) c.args.cv _ 0 _ at c.step.ensures.view c.if-step-eq0.true, spins_append c.args.cv inv.0 spins.0 inv.2 spins.2)
+    (inv.0 ++ spins.0, swaps_on (size_of c.args.table.now) v _ _ (spun true v.place) (inv.0 ++ spins.0) c.args.spot _ 0 _ at c.step.ensures.view c.if-step-eq0.true, spins_append c.args.spot inv.0 spins.0 inv.2 spins.2)
 
 pub returns-then-step-eq0-clause-list : goal.returns-then-step-eq0-clause-list
 returns-then-step-eq0-clause-list g c =
@@ -40,7 +40,7 @@ returns-then-step-eq0-clause-list g c =
     let inv = c.loop.invariant.2 in
     let spins = c.spin.ensures.view in
     let at = went_through v _ _ _ (spun true v.place) inv.0 spins.0 inv.1 (spins.1 ∙ ap (λ (y : WaitView _). went c.loop.seat.view (spun true y.place) spins.0) inv.1) in
-    subst (λ (y : WaitView _). TellsList (size_of c.args.table.now) (number_of y.own) (belongs_at y.target y.place) c.args.cv c.step.new.seat.list) at (c.step.ensures.list c.if-step-eq0.true)
+    subst (λ (y : WaitView _). TellsList (size_of c.args.table.now) (number_of y.own) (belongs_at y.target y.place) (slot_of c.args.spot) c.step.new.seat.list) at (c.step.ensures.list c.if-step-eq0.true)
 
 pub loop-preserved : goal.loop-preserved
 loop-preserved g c =
@@ -48,6 +48,14 @@ loop-preserved g c =
     let inv = c.loop.invariant.2 in
     let spins = c.spin.ensures.view in
     let at = went_through v _ _ _ (spun true v.place) inv.0 spins.0 inv.1 (spins.1 ∙ ap (λ (y : WaitView _). went c.loop.seat.view (spun true y.place) spins.0) inv.1) in
-    let more : List Made = (inv.0 ++ spins.0) ++ made (Take (Cv c.args.cv) None) 1 ∷ [] in
-    let on = swaps_on (size_of c.args.table.now) v _ _ (spun true v.place) (inv.0 ++ spins.0) c.args.cv _ 1 _ at c.step.ensures.view (swapped_set c.step.result.old c.step.ensures.told c.if-step-eq0.false) in
-    ((cc), (cc), (more, on ∙ ap (λ p. went v p more) (taken_still (Cv c.args.cv) (as_kept c.step.new.seat.list c.step.new.seat.record) v.place c.requires.place), spins_append c.args.cv (inv.0 ++ spins.0) _ (spins_append c.args.cv inv.0 spins.0 inv.2 spins.2) ((refl, refl), tt)))
+    let more : List Made = (inv.0 ++ spins.0) ++ made (Take c.args.spot None) 1 ∷ [] in
+    let on = swaps_on (size_of c.args.table.now) v _ _ (spun true v.place) (inv.0 ++ spins.0) c.args.spot _ 1 _ at c.step.ensures.view (swapped_set c.step.result.old c.step.ensures.told c.if-step-eq0.false) in
+    ((cc), (cc), (more, on ∙ ap (λ p. went v p more) (taken_still c.args.spot (as_kept c.step.new.seat.list c.step.new.seat.record) v.place c.requires.place), spins_append c.args.spot (inv.0 ++ spins.0) _ (spins_append c.args.spot inv.0 spins.0 inv.2 spins.2) ((refl, refl), tt)))
+
+pub returns-then-step-eq0-clause-barrier : goal.returns-then-step-eq0-clause-barrier
+returns-then-step-eq0-clause-barrier g c =
+    let v = c.args.seat.now.view in
+    let inv = c.loop.invariant.2 in
+    let spins = c.spin.ensures.view in
+    let at = went_through v _ _ _ (spun true v.place) inv.0 spins.0 inv.1 (spins.1 ∙ ap (λ (y : WaitView _). went c.loop.seat.view (spun true y.place) spins.0) inv.1) in
+    subst (λ (y : WaitView _). TellsRecord y.attached c.args.spot c.step.new.seat.record) at (c.step.ensures.barrier c.if-step-eq0.true)
