@@ -453,11 +453,14 @@ module _ {C : Type 0} (means : Meanings C) (z : Size) (phase count : ℕ) (s : W
   ones [] = refl
   ones (u ∷ l) = let e = ones l in omega arith
 
+  -- where its spin word is 0 a record lies at home
+  home_counts : (b : ℕ) → b < z.bars → get_or s.words (spin_at z (slot_of (Bar b))) 0 ≡ 0 → (f : Record → ℕ) → field_of f b s.homes (map attendance_of s.views) ≡ f (home_in s.homes (slot_of (Bar b))).record
+  home_counts b below clear f = let one = (r.lists.hands (slot_of (Bar b)) (omega arith)).one in let held = held_once (slot_of (Bar b)) in field_home f s.homes (map attendance_of s.views) b (omega arith)
+
   tells_counts : (id : ℕ) (v : WaitView C) → get_elem? s.views id ≡ maybe.some v → (b : ℕ) → b < z.bars → get_or s.words (spin_at z (slot_of (Bar b))) 0 ≡ 0 → CountsSeat (phase_of v.attached b) (home_in s.homes (slot_of (Bar b))).record
   tells_counts id v at b below clear =
       let seats : List (Attendance C) = map attendance_of s.views in let there = at_map attendance_of s.views id v at in let few = few_views in let long = length-map s.views party_of in let long' = length-map s.views attendance_of in
-      let one = (r.lists.hands (slot_of (Bar b)) (omega arith)).one in let held = held_once (slot_of (Bar b)) in let none : total (slot_held (slot_of (Bar b))) seats ≡ 0 = omega arith in
-      let counted = r.participants b below in let home = field_home (λ r. r.participants) s.homes seats b none in let home' = field_home (λ r. r.phase) s.homes seats b none in
+      let counted = r.participants b below in let home = home_counts b below clear (λ r. r.participants) in let home' = home_counts b below clear (λ r. r.phase) in
       by_known (phase_of v.attached b) refl (total_at (takes_part b) seats id (attendance_of v) there) (total_gap (takes_part b) (λ (u : Attendance C). 1) seats id (attendance_of v) (λ i u e. part_most b u) there) (ones seats)
       (λ ph is. sym home' ∙ (sym (phase_seen b below) ∙ r.here id (attendance_of v) there refl b ph is)) (omega arith) (omega arith)
     where
@@ -467,11 +470,14 @@ module _ {C : Type 0} (means : Meanings C) (z : Size) (phase count : ℕ) (s : W
       by_known None is some gap all phase_is counted few = let none : takes_part b (attendance_of v) ≡ 0 = ap one_if is in omega arith
       by_known (Some ph) is some gap all phase_is counted few = let one : takes_part b (attendance_of v) ≡ 1 = ap one_if is in (omega arith, phase_is ph is)
 
-  tells_record : (id : ℕ) (v : WaitView C) → get_elem? s.views id ≡ maybe.some v → (x : Spot) → IsSpot z x → get_or s.words (spin_at z (slot_of x)) 0 ≡ 0 → TellsRecord v.attached x (home_in s.homes (slot_of x)).record
+  tells_record : (id : ℕ) (v : WaitView C) → get_elem? s.views id ≡ maybe.some v → (x : Spot) → IsSpot z x → get_or s.words (spin_at z (slot_of x)) 0 ≡ 0 → TellsRecord means z phase count x id (party_of v) (home_in s.homes (slot_of x)).record
   tells_record id v at (Cv c) below clear = tt
-  tells_record id v at (Bar b) below clear = tells_counts id v at b below clear
+  tells_record id v at (Bar b) below clear = (
+    tells_counts id v at b below clear,
+    record { state = s; rule = r; here = at_map party_of s.views id v at; counted = sym (home_counts b below clear (λ r. r.participants)) ∙ r.participants b below },
+  )
 
-  pub barrier_tells : (id : ℕ) (v : WaitView C) → get_elem? s.views id ≡ maybe.some v → (o : ℕ) (k : WaitStep) → Permits z k (Some o) v.target v.place → TellsBarrier k v.attached (get_or s.words (word_of z o k) 0) (home_in s.homes (slot_number k)).record
+  pub barrier_tells : (id : ℕ) (v : WaitView C) → get_elem? s.views id ≡ maybe.some v → (o : ℕ) (k : WaitStep) → Permits z k (Some o) v.target v.place → TellsBarrier means z phase count k id (party_of v) (get_or s.words (word_of z o k) 0) (home_in s.homes (slot_number k)).record
   barrier_tells id v at o (Take x (Some c)) ok = tells_record id v at x ok.0
   barrier_tells id v at o (Take x None) ok = tells_record id v at x ok.0
   barrier_tells id v at o k ok = tt

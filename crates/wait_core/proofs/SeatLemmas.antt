@@ -90,8 +90,8 @@ module _ {C : Type 0} where
   frees_hand z k v ok freeing = absurd freeing
 
   -- a seat after a step, with its target
-  pub seated_after : (z : Size) (s t : Seat Kept (WaitView C)) (number : ℕ) (target : Option ℕ) (k : WaitStep) (n : ℕ) → IsSeated s number target → Allowed z k s.me.0 → t.table_id ≡ s.table_id → does z k s.me n t.me → IsSeated t number (target_then k target)
-  seated_after z s t number target k n h ok table told =
+  pub seated_after : (z : Size) (tells : ℕ → Record → Type 0) (s t : Seat Kept (WaitView C)) (number : ℕ) (target : Option ℕ) (k : WaitStep) (n : ℕ) → IsSeated s number target → Allowed z k s.me.0 → t.table_id ≡ s.table_id → does z tells k s.me n t.me → IsSeated t number (target_then k target)
+  seated_after z tells s t number target k n h ok table told =
       let inside = h.inside in let wide = ap (λ (i : TableId). i.words) table in record {
         carries = subst (λ (m : Me Kept (WaitView C)). Carries (hand_at m.0.place) m.1) (λ i. (sym told.1 i, sym told.2 i)) (carries_after z k n told.0 (hand_at s.me.0.place) (hand_at (next_with z k s.me.0 n told.0).place) s.me.1 (takes_free z k s.me.0 ok) h.carries told.6);
         own = ap (λ (v : WaitView C). v.own) told.1 ∙ h.own;
@@ -129,14 +129,14 @@ taking_act : (z : Size) (k : WaitStep) (n : ℕ) (found : Kept) → IsTaking k �
 taking_act z (Take x b) n found taking zero_is = ap (λ (b : Bool). cond b (takes (slot_of x) found) keeps) (eq-eqb n 0 zero_is)
 taking_act z k n found taking zero_is = absurd taking
 
-module _ {C : Type 0} (z : Size) (s t : Seat Kept (WaitView C)) (number : ℕ) (target : Option ℕ) (k : WaitStep) (n slot : ℕ) (h : IsSeated s number target) (ok : Allowed z k s.me.0) (table : t.table_id ≡ s.table_id) (told : does z k s.me n t.me) where
+module _ {C : Type 0} (z : Size) (tells : ℕ → Record → Type 0) (s t : Seat Kept (WaitView C)) (number : ℕ) (target : Option ℕ) (k : WaitStep) (n slot : ℕ) (h : IsSeated s number target) (ok : Allowed z k s.me.0) (table : t.table_id ≡ s.table_id) (told : does z tells k s.me n t.me) where
   pub seated_apart : IsApart k → IsSeated t number target
-  seated_apart apart = subst (IsSeated t number) (apart_target k target apart) (seated_after z s t number target k n h ok table told)
+  seated_apart apart = subst (IsSeated t number) (apart_target k target apart) (seated_after z tells s t number target k n h ok table told)
 
   -- AFTER A TAKE, and after what was taken was moved into the seat
   module _ (taking : IsTaking k) (at : slot ≡ slot_number k) where
     pub seated_taken : IsSeated t number target
-    seated_taken = subst (IsSeated t number) (taking_target k target taking) (seated_after z s t number target k n h ok table told)
+    seated_taken = subst (IsSeated t number) (taking_target k target taking) (seated_after z tells s t number target k n h ok table told)
 
     pub taken_slot : n ≡ 0 → (x : Kept) × (t.me.1 ≡ (slot, x) ∷ rest t.me.1)
     taken_slot zero_is = let now : t.me.1 ≡ (slot_number k, told.0) ∷ s.me.1 = told.2 ∙ ap (carried_after s.me.1) (taking_act z k n told.0 taking zero_is) in

@@ -1,5 +1,5 @@
 -- What each step tells its seat.
-use Rattle.std.specs.Prelude.{◌≡◌, ℕ, ◌+◌, ◌<◌, ◌≤◌, ◌==◌, cond, true, false, List, length, Option, None, Some, ⊤}
+use Rattle.std.specs.Prelude.{◌≡◌, ℕ, ◌+◌, ◌<◌, ◌≤◌, ◌==◌, cond, true, false, List, length, map, Option, None, Some, ⊤}
 use Rattle.seat_roster.specs.Roster.{times}
 use Rattle.atomic_table.specs.Table.{Me, Step, Allows, Splits, Joins, carried_after}
 use Rattle.wait_core.specs.declared.step.WaitStep.{WaitStep}
@@ -15,9 +15,13 @@ use Rattle.wait_core.specs.Meanings.{Meanings}
 use Rattle.wait_core.specs.Parties.{phase_of}
 use Rattle.wait_core.specs.Lists.{is_listed, AllBelow}
 use Rattle.wait_core.specs.Words.{slot_of}
-use Rattle.wait_core.specs.Machine.{number_of, next_with, act_of}
+use Rattle.seat_roster.specs.Totals.{total}
+use mathlib.Core.Option as maybe
+use lib.ListN.{get_elem?}
+use Rattle.wait_core.specs.Machine.{WaitState, number_of, next_with, act_of}
 use Rattle.wait_core.specs.Stances.{slot_in, hand_at, belongs_at}
-use Rattle.wait_core.specs.Seating.{client_moved, with_drawn}
+use Rattle.wait_core.specs.Seating.{party_of, client_moved, with_drawn}
+use Rattle.wait_core.specs.Barriers.{attendance_of, takes_part}
 use Rattle.wait_core.specs.Rule.{Rule}
 
 -- On the list of the slot x, which was taken in hand, stand backends of the table alone. The backend `own` is on it once, and only where it belongs there; else there is room for it
@@ -38,29 +42,37 @@ abbrev pub CountsSeat : Option ℕ → Record → Type 0
 CountsSeat None r = r.participants < 64
 CountsSeat (Some ph) r = (1 ≤ r.participants) × (r.phase ≡ ph)
 
-abbrev pub TellsRecord : List (ℕ × ℕ) → Spot → Record → Type 0
-TellsRecord attached (Cv c) r = ⊤
-TellsRecord attached (Bar b) r = CountsSeat (phase_of attached b) r
-
--- what a step that found n tells of the record that it took in hand
-abbrev pub TellsBarrier : WaitStep → List (ℕ × ℕ) → ℕ → Record → Type 0
-TellsBarrier (Take x begins) attached n found = n ≡ 0 → TellsRecord attached x found
-TellsBarrier k attached n found = ⊤
-
 -- the slot that is out with the seat after a step that found n
 abbrev pub slot_then : WaitStep → ℕ → Option ℕ → Option ℕ
 slot_then (Take x begins) n out = cond (n == 0) (Some (slot_of x)) out
 slot_then (Free x target) n out = None
 slot_then k n out = out
 
+module _ {C : Type 0} (means : Meanings C) (z : Size) (phase count : ℕ) where
+  -- in a state that meets the rule the client saw the seat so, and the record counts whoever was attached to the barrier
+  pub record CountsAttached (b id : ℕ) (v : PartyView C) (r : Record) : Type 0 where
+    pub state : WaitState C
+    pub rule : Rule means z phase count state
+    pub here : get_elem? (map party_of state.views) id ≡ maybe.some v
+    pub counted : r.participants ≡ total (takes_part b) (map attendance_of state.views)
+
+  abbrev pub TellsRecord : Spot → ℕ → PartyView C → Record → Type 0
+  TellsRecord (Cv c) id v r = ⊤
+  TellsRecord (Bar b) id v r = CountsSeat (phase_of v.attached b) r × CountsAttached b id v r
+
+  -- what a step that found n tells of the record that it took in hand
+  abbrev pub TellsBarrier : WaitStep → ℕ → PartyView C → ℕ → Record → Type 0
+  TellsBarrier (Take x begins) id v n r = n ≡ 0 → TellsRecord x id v r
+  TellsBarrier k id v n r = ⊤
+
 module _ {C : Type 0} where
   -- the place after the step knows of it
   abbrev pub HandFollows : Size → WaitStep → WaitView C → ℕ → Kept → Type 0
   HandFollows z k v n found = slot_in (hand_at (next_with z k v n found).place) ≡ slot_then k n (slot_in (hand_at v.place))
 
-  -- a step of the machine that found n: the view goes on as the machine says, what a spin word guards leaves its slot or goes home, and n was 0 or 1
-  abbrev pub does : Size → WaitStep → Me Kept (WaitView C) → ℕ → Me Kept (WaitView C) → Type 0
-  does z k m n m' = (found : Kept) × (m'.0 ≡ next_with z k m.0 n found) × (m'.1 ≡ carried_after m.1 (act_of k n found)) × (n ≤ 1) × Tells z k (number_of m.0.own) (belongs_at m.0.target m.0.place) n found.list.items × TellsBarrier k m.0.attached n found.record × HandFollows z k m.0 n found
+  -- a step of the machine that found n: the view goes on as the machine says, what a spin word guards leaves its slot or goes home, n was 0 or 1, and the record that was found is told of
+  abbrev pub does : Size → (ℕ → Record → Type 0) → WaitStep → Me Kept (WaitView C) → ℕ → Me Kept (WaitView C) → Type 0
+  does z tells k m n m' = (found : Kept) × (m'.0 ≡ next_with z k m.0 n found) × (m'.1 ≡ carried_after m.1 (act_of k n found)) × (n ≤ 1) × Tells z k (number_of m.0.own) (belongs_at m.0.target m.0.place) n found.list.items × tells n found.record × HandFollows z k m.0 n found
 
   -- a step of the client, after which its view is c of the word found, and which told something of it
   abbrev pub does_client : (ℕ → C) → (ℕ → Type 0) → Me Kept (WaitView C) → ℕ → Me Kept (WaitView C) → Type 0

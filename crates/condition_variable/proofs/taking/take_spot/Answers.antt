@@ -1,4 +1,6 @@
 use Rattle.std.proofs.Common.{◌≡◌, ℕ, true, [], ◌∷◌, ◌++◌, Option, None, refl, sym, ap, ◌∙◌, subst, inl, inr}
+use Rattle.wait_core.specs.declared.view.PartyView.{PartyView}
+use Rattle.wait_core.specs.Seating.{party_of}
 use Rattle.wait_core.specs.Seats.{size_of}
 use Rattle.wait_core.specs.Words.{slot_of}
 use Rattle.wait_core.specs.declared.step.WaitStep.TheVariants.{Take}
@@ -53,4 +55,4 @@ pub returns-clause-barrier : goal.returns-clause-barrier
 returns-clause-barrier g c =
     let v = c.args.seat.now.view in
     let on = takes_on (size_of c.args.table.now) v _ c.args.spot c.args.begins _ 1 (as_kept c.step.new.seat.list c.step.new.seat.record) c.step.ensures.view (swapped_set c.step.result.old c.step.ensures.told c.if-step-eq0.false) in
-    subst (λ (y : WaitView _). TellsRecord y.attached c.args.spot c.wait_for_spot.new.seat.record) on c.wait_for_spot.ensures.barrier
+    subst {A = ℕ × PartyView _} (λ y. TellsRecord (g.P.Party.means c.args.table.now.party) (size_of c.args.table.now) c.args.table.now.phase (g.P.Party.word_count c.args.table.now.party) c.args.spot y.0 y.1 c.wait_for_spot.new.seat.record) (λ i. (c.step.ensures.table.1 i, party_of (on i))) c.wait_for_spot.ensures.barrier

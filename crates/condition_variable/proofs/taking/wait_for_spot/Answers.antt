@@ -1,4 +1,6 @@
-use Rattle.std.proofs.Common.{true, List, [], ◌∷◌, ◌++◌, None, refl, sym, ap, ◌∙◌, subst, arith}
+use Rattle.std.proofs.Common.{◌≡◌, ℕ, true, List, [], ◌∷◌, ◌++◌, None, refl, sym, ap, ◌∙◌, subst, arith}
+use Rattle.wait_core.specs.declared.view.PartyView.{PartyView}
+use Rattle.wait_core.specs.Seating.{party_of}
 use Rattle.wait_core.specs.Seats.{size_of}
 use Rattle.wait_core.specs.Words.{slot_of}
 use Rattle.wait_core.specs.declared.step.WaitStep.TheVariants.{Take}
@@ -58,4 +60,4 @@ returns-then-step-eq0-clause-barrier g c =
     let inv = c.loop.invariant.2 in
     let spins = c.spin.ensures.view in
     let at = went_through v _ _ _ (spun true v.place) inv.0 spins.0 inv.1 (spins.1 ∙ ap (λ (y : WaitView _). went c.loop.seat.view (spun true y.place) spins.0) inv.1) in
-    subst (λ (y : WaitView _). TellsRecord y.attached c.args.spot c.step.new.seat.record) at (c.step.ensures.barrier c.if-step-eq0.true)
+    subst {A = ℕ × PartyView _} (λ y. TellsRecord (g.P.Party.means c.args.table.now.party) (size_of c.args.table.now) c.args.table.now.phase (g.P.Party.word_count c.args.table.now.party) c.args.spot y.0 y.1 c.step.new.seat.record) (λ i. ((c.spin.ensures.table.1 ∙ c.loop.invariant.1) i, party_of (at i))) (c.step.ensures.barrier c.if-step-eq0.true)
