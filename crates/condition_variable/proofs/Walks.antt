@@ -207,6 +207,12 @@ signal_behind c (Some d) p = refl
 pub stands_through : {C : Type 0} (v w x : WaitView C) (p r : Place) (t u : Option ℕ) (h k : Bool) (more rest : List Made) → w ≡ stands v p t h more → x ≡ stands w r u k rest → x ≡ stands v r u k (more ++ rest)
 stands_through v w x p r t u h k more rest was is = is ∙ (ap (λ (y : WaitView _). stands y r u k rest) was ∙ ap (λ (l : List Made). record v { place = r; steps = l; target = u; heeds = k }) (append_assoc v.steps more rest))
 
+-- a sleep that found the backend still on the list waits again
+pub waits_again : {C : Type 0} (v w x : WaitView C) (c : ℕ) (off : Bool) (before wait part : List Made) → v.target ≡ Some c → off ≡ false → w ≡ went v (Resetting c ∷ v.place) (before ++ wait) → x ≡ stands w (cond off (resumed (outer w.place)) (SleepWaiting c ∷ outer w.place)) (Some c) (cond off true w.heeds) part → x ≡ went v (SleepWaiting c ∷ v.place) (before ++ (wait ++ part))
+waits_again v w x c off before wait part is on was looked =
+    let here : x ≡ stands w (SleepWaiting c ∷ v.place) (Some c) v.heeds part = looked ∙ (λ i. stands w (cond (on i) (resumed (outer (was i).place)) (SleepWaiting c ∷ outer (was i).place)) (Some c) (cond (on i) true (was i).heeds) part) in
+    stands_through v w x _ (SleepWaiting c ∷ v.place) v.target (Some c) v.heeds v.heeds (before ++ wait) part was here ∙ (λ i. stands v (SleepWaiting c ∷ v.place) (sym is i) v.heeds (append_assoc before wait part i))
+
 -- whom the visit popped was woken after it
 pub roused : {C : Type 0} (v w x : WaitView C) (p r : Place) (t : Option ℕ) (h : Bool) (o : Option ℕ) (visit sets : List Made) → w ≡ stands v p t h visit → x ≡ went w (after_wake o w.place) sets → after_wake o p ≡ r → x ≡ stands v r t h (visit ++ sets)
 roused v w x p r t h o visit sets was is ends = is ∙ (ap (λ (y : WaitView _). went y (after_wake o y.place) sets) was ∙ (λ i. record v { place = ends i; steps = append_assoc v.steps visit sets i; target = t; heeds = h }))

@@ -6,10 +6,13 @@ use Rattle.wait_core.specs.declared.step.Call.{Call}
 use Rattle.wait_core.specs.declared.step.Call.TheVariants as call
 use Rattle.wait_core.specs.declared.step.WaitStep.{WaitStep}
 use Rattle.wait_core.specs.declared.step.WaitStep.TheVariants.{Sload, Sset, Mload, Byte, Take, Spin, Free}
+use Rattle.wait_core.specs.declared.view.Frame.TheVariants.{Taking}
+use Rattle.wait_core.specs.declared.view.Job.{Job}
 use Rattle.wait_core.specs.declared.view.Made.{Made}
+use Rattle.wait_core.specs.declared.view.Size.{Size}
 use Rattle.wait_core.specs.declared.view.WaitView.{WaitView}
 use Rattle.wait_core.specs.Jobs.{resumed}
-use Rattle.wait_core.specs.Machine.{Place, MayBegin, entered, made, made_with}
+use Rattle.wait_core.specs.Machine.{Place, Allowed, MayBegin, entered, made, made_with, top}
 use Rattle.wait_core.specs.Seats.{SeatView}
 
 -- the view of a seat that stands at the place p after more steps, and has this target and heeds its signal or not: nothing else changed
@@ -28,6 +31,10 @@ head_of (q ∷ rest) = Some q
 abbrev pub entering : Option Call → Option ℕ → Place → Place
 entering None target p = p
 entering (Some c) target p = entered target c p
+
+-- A seat may take the spin word of c for this job; a call may begin with that
+abbrev pub MayTakeFor : {C : Type 0} → Size → ℕ → Option Call → Job → WaitView C → Type 0
+MayTakeFor z c begins j v = Allowed z (Take (Cv c) begins) v × (top (entering begins v.target v.place) ≡ Some (Taking j))
 
 -- The step looks at the spin word x, which somebody has: it loads it, or swaps it and finds it taken
 abbrev pub IsSpin : Spot → WaitStep → ℕ → Type 0

@@ -1,17 +1,14 @@
 //! How a backend goes to the list of a condition, and leaves that of its target.
 ghost use Rattle.std.specs.Prelude.{◌≡◌, ◌<◌, ◌++◌, ◌∷◌, [], List, ℕ, None, Some, true, false, not, MatchOption};
 ghost use Rattle.wait_core.specs.declared.step.Call.TheVariants as call;
-ghost use Rattle.wait_core.specs.declared.step.Spot.TheVariants.{Cv};
-ghost use Rattle.wait_core.specs.declared.step.WaitStep.TheVariants as kind;
-ghost use Rattle.wait_core.specs.declared.view.Frame.TheVariants.{Taking};
 ghost use Rattle.wait_core.specs.declared.view.Job.TheVariants as job;
 ghost use Rattle.wait_core.specs.declared.view.Made.{Made};
 ghost use Rattle.wait_core.specs.Fits.{IsTarget};
 ghost use Rattle.wait_core.specs.Jobs.{resumed};
 ghost use Rattle.wait_core.specs.Lists.{is_listed};
-ghost use Rattle.wait_core.specs.Machine.{Allowed, MayBegin, number_of, outer, top};
+ghost use Rattle.wait_core.specs.Machine.{MayBegin, number_of, outer};
 ghost use Rattle.wait_core.specs.Seats.{size_of};
-ghost use Rattle.condition_variable.specs.Visits.{Visits, entering, stands};
+ghost use Rattle.condition_variable.specs.Visits.{MayTakeFor, Visits, entering, stands};
 ghost use Rattle.condition_variable.specs.Calls.{Cancels, IsListing, Lists};
 
 use crate::list::{join, leave};
@@ -63,8 +60,7 @@ pub(crate) fn leave_target<P: Party, R: Wait>(
 ) -> bool
     requires table { seat.old.table_id ≡ table.now.table_id }
     requires target { (seat.old.view.target ≡ Some target) × (target < table.now.cvs) }
-    requires place { Allowed (size_of table.now) (kind.Take (Cv target) (Some begins)) seat.old.view }
-    requires job { top (entering (Some begins) seat.old.view.target seat.old.view.place) ≡ Some (Taking (job.Cancel target)) }
+    requires take { MayTakeFor (size_of table.now) target (Some begins) (job.Cancel target) seat.old.view }
     ensures table { (seat.new.table_id ≡ seat.old.table_id) × (seat.new.id ≡ seat.old.id) }
     ensures left { (found : List ℕ) × (more : List Made) × (seat.new.view ≡ stands seat.old.view (resumed (outer (entering (Some begins) seat.old.view.target seat.old.view.place))) None seat.old.view.heeds more) × Cancels (number_of seat.old.view.own) target begins found more × (result ≡ not (is_listed (number_of seat.old.view.own) found)) }
 {
@@ -85,8 +81,7 @@ fn join_list<P: Party, R: Wait>(
     requires table { seat.old.table_id ≡ table.now.table_id }
     requires condition { cv < table.now.cvs }
     requires target { seat.old.view.target ≡ None }
-    requires place { Allowed (size_of table.now) (kind.Take (Cv cv) begins) seat.old.view }
-    requires job { top (entering begins seat.old.view.target seat.old.view.place) ≡ Some (Taking (job.Prepare cv)) }
+    requires take { MayTakeFor (size_of table.now) cv begins (job.Prepare cv) seat.old.view }
     ensures table { (seat.new.table_id ≡ seat.old.table_id) × (seat.new.id ≡ seat.old.id) }
     ensures joined { (found : List ℕ) × (more : List Made) × (seat.new.view ≡ stands seat.old.view (resumed (outer (entering begins seat.old.view.target seat.old.view.place))) (Some cv) true more) × Visits cv begins found (found ++ number_of seat.old.view.own ∷ []) (Some cv) more }
 {

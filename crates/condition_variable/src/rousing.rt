@@ -1,18 +1,16 @@
 //! Wakes all.
 ghost use Rattle.std.specs.Prelude.{◌≡◌, ◌<◌, List, [], ◌∷◌, ℕ, None, Some, not, cond};
 ghost use Rattle.wait_core.specs.declared.step.Call.TheVariants as call;
-ghost use Rattle.wait_core.specs.declared.step.Spot.TheVariants.{Cv};
-ghost use Rattle.wait_core.specs.declared.step.WaitStep.TheVariants as kind;
 ghost use Rattle.wait_core.specs.declared.view.Frame.TheVariants.{Taking};
 ghost use Rattle.wait_core.specs.declared.view.Job.TheVariants as job;
 ghost use Rattle.wait_core.specs.declared.view.Made.{Made};
 ghost use Rattle.wait_core.specs.Fits.{IsTarget};
 ghost use Rattle.wait_core.specs.Jobs.{resumed};
 ghost use Rattle.wait_core.specs.Lists.{is_empty, is_listed, rest_of};
-ghost use Rattle.wait_core.specs.Machine.{Allowed, MayBegin, number_of, outer, top};
+ghost use Rattle.wait_core.specs.Machine.{MayBegin, number_of, outer};
 ghost use Rattle.wait_core.specs.Seats.{size_of};
 ghost use Rattle.latch.specs.Reads.{went};
-ghost use Rattle.condition_variable.specs.Visits.{Rouses, entering, head_of, stands};
+ghost use Rattle.condition_variable.specs.Visits.{MayTakeFor, Rouses, entering, head_of, stands};
 ghost use Rattle.condition_variable.specs.Calls.{Broadcasts, Round, RousesAll, UntilOff, signed};
 
 use crate::list::{is_on, join_others, other_than_own, pop, wake};
@@ -54,8 +52,7 @@ fn rouse_all<P: Party, R: Wait>(
     requires table { seat.old.table_id ≡ table.now.table_id }
     requires condition { cv < table.now.cvs }
     requires target { seat.old.view.target ≡ None }
-    requires place { Allowed (size_of table.now) (kind.Take (Cv cv) begins) seat.old.view }
-    requires job { top (entering begins seat.old.view.target seat.old.view.place) ≡ Some (Taking (job.Broadcast cv)) }
+    requires take { MayTakeFor (size_of table.now) cv begins (job.Broadcast cv) seat.old.view }
     ensures table { (seat.new.table_id ≡ seat.old.table_id) × (seat.new.id ≡ seat.old.id) }
     ensures roused { (more : List Made) × (seat.new.view ≡ went seat.old.view (resumed (outer (entering begins seat.old.view.target seat.old.view.place))) more) × RousesAll (number_of seat.old.view.own) cv begins more }
 {
@@ -76,8 +73,7 @@ fn rouse_first<P: Party, R: Wait>(
     requires table { seat.old.table_id ≡ table.now.table_id }
     requires condition { cv < table.now.cvs }
     requires target { seat.old.view.target ≡ None }
-    requires place { Allowed (size_of table.now) (kind.Take (Cv cv) begins) seat.old.view }
-    requires job { top (entering begins seat.old.view.target seat.old.view.place) ≡ Some (Taking (job.Broadcast cv)) }
+    requires take { MayTakeFor (size_of table.now) cv begins (job.Broadcast cv) seat.old.view }
     ensures table { (seat.new.table_id ≡ seat.old.table_id) × (seat.new.id ≡ seat.old.id) }
     ensures roused { (found : List ℕ) × (more : List Made) × (result ≡ not (is_empty (rest_of found))) × (seat.new.view ≡ went seat.old.view (cond result (Taking (job.Rebroadcast cv) ∷ outer (entering begins seat.old.view.target seat.old.view.place)) (resumed (outer (entering begins seat.old.view.target seat.old.view.place)))) more) × Rouses cv begins found (signed (number_of seat.old.view.own) found) None (head_of found) more }
 {

@@ -13,11 +13,8 @@ use Rattle.condition_variable.proofs.prepare.cancel_sleep.Goals as goal
 pub leave_target-requires-clause-target : goal.leave_target-requires-clause-target
 leave_target-requires-clause-target g c = let at = sym c.target.ensures ∙ c.in-Some.is in λ _ _. (at, c.requires.target c.in-Some.target at)
 
-pub leave_target-requires-clause-place : goal.leave_target-requires-clause-place
-leave_target-requires-clause-place g c = let at = sym c.target.ensures ∙ c.in-Some.is in let inside = c.requires.target c.in-Some.target at in λ _ _. (omega (arith, inside), cancel_first c.args.seat.now.view.target ∙ ap spot_for at, tt, c.requires.place)
-
-pub leave_target-requires-clause-job : goal.leave_target-requires-clause-job
-leave_target-requires-clause-job g c = let at = sym c.target.ensures ∙ c.in-Some.is in λ _ _. ap (λ (o : Option ℕ). top (entering (Some call.Cancel) o c.args.seat.now.view.place)) at
+pub leave_target-requires-clause-take : goal.leave_target-requires-clause-take
+leave_target-requires-clause-take g c = let at = sym c.target.ensures ∙ c.in-Some.is in let inside = c.requires.target c.in-Some.target at in λ _ _. ((omega (arith, inside), cancel_first c.args.seat.now.view.target ∙ ap spot_for at, tt, c.requires.place), ap (λ (o : Option ℕ). top (entering (Some call.Cancel) o c.args.seat.now.view.place)) at)
 
 pub returns-in-None-clause-left : goal.returns-in-None-clause-left
 returns-in-None-clause-left g c =

@@ -16,13 +16,9 @@ use Rattle.condition_variable.proofs.prepare.go_to_list.Goals as goal
 pub join_list-requires-clause-target : goal.join_list-requires-clause-target
 join_list-requires-clause-target g c = λ _ _. sym c.target.ensures ∙ c.in-None.is
 
-pub join_list-requires-clause-place : goal.join_list-requires-clause-place
-join_list-requires-clause-place g c =
-    let v = c.args.seat.now.view in λ _ _. listing_joins (size_of c.args.table.now) c.args.cv v.own v.target c.args.begins v.place c.requires.begins (sym c.target.ensures ∙ c.in-None.is) c.requires.condition c.requires.place
-
-pub join_list-requires-clause-job : goal.join_list-requires-clause-job
-join_list-requires-clause-job g c =
-    let v = c.args.seat.now.view in λ _ _. ap top (listing_joins_at c.args.cv v.target c.args.begins v.place c.requires.begins (sym c.target.ensures ∙ c.in-None.is))
+pub join_list-requires-clause-take : goal.join_list-requires-clause-take
+join_list-requires-clause-take g c =
+    let v = c.args.seat.now.view in λ _ _. (listing_joins (size_of c.args.table.now) c.args.cv v.own v.target c.args.begins v.place c.requires.begins (sym c.target.ensures ∙ c.in-None.is) c.requires.condition c.requires.place, ap top (listing_joins_at c.args.cv v.target c.args.begins v.place c.requires.begins (sym c.target.ensures ∙ c.in-None.is)))
 
 pub returns-in-None-clause-listed : goal.returns-in-None-clause-listed
 returns-in-None-clause-listed g c =
@@ -36,34 +32,21 @@ returns-in-None-clause-listed g c =
 pub leave_target-requires-clause-target : goal.leave_target-requires-clause-target
 leave_target-requires-clause-target g c = let at = sym c.target.ensures ∙ c.in-Some.is in λ _ _. (at, c.requires.target c.in-Some.target at)
 
-pub leave_target-requires-clause-place : goal.leave_target-requires-clause-place
-leave_target-requires-clause-place g c =
-    let v = c.args.seat.now.view in let at = sym c.target.ensures ∙ c.in-Some.is in λ _ _. listing_begins (size_of c.args.table.now) c.args.cv c.in-Some.target v.own v.target c.args.begins v.place c.requires.begins at (c.requires.target c.in-Some.target at) c.requires.condition c.requires.place
-
-pub leave_target-requires-clause-job : goal.leave_target-requires-clause-job
-leave_target-requires-clause-job g c =
-    let v = c.args.seat.now.view in λ _ _. ap top (listing_leaves_at c.args.cv c.in-Some.target v.target c.args.begins v.place c.requires.begins (sym c.target.ensures ∙ c.in-Some.is))
+pub leave_target-requires-clause-take : goal.leave_target-requires-clause-take
+leave_target-requires-clause-take g c =
+    let v = c.args.seat.now.view in let at = sym c.target.ensures ∙ c.in-Some.is in λ _ _. (listing_begins (size_of c.args.table.now) c.args.cv c.in-Some.target v.own v.target c.args.begins v.place c.requires.begins at (c.requires.target c.in-Some.target at) c.requires.condition c.requires.place, ap top (listing_leaves_at c.args.cv c.in-Some.target v.target c.args.begins v.place c.requires.begins (sym c.target.ensures ∙ c.in-Some.is)))
 
 pub join_list-requires-in-Some-clause-target : goal.join_list-requires-in-Some-clause-target
 join_list-requires-in-Some-clause-target g c = λ _ _. ap (λ (y : WaitView _). y.target) c.leave_target.ensures.left.2
 
-pub join_list-requires-in-Some-clause-place : goal.join_list-requires-in-Some-clause-place
-join_list-requires-in-Some-clause-place g c =
+pub join_list-requires-in-Some-clause-take : goal.join_list-requires-in-Some-clause-take
+join_list-requires-in-Some-clause-take g c =
     let v = c.args.seat.now.view in
     let at : v.target ≡ Some c.in-Some.target = sym c.target.ensures ∙ c.in-Some.is in
     let left = c.leave_target.ensures.left in
     let then : resumed (outer (entering (Some c.args.begins) v.target v.place)) ≡ Taking (job.Prepare c.args.cv) ∷ v.place = ap (λ (p : Place). resumed (outer p)) (listing_leaves_at c.args.cv c.in-Some.target v.target c.args.begins v.place c.requires.begins at) in
     let stood = left.2 ∙ ap (λ (p : Place). stands v p None v.heeds left.1) then in
-    λ _ _. subst (λ (y : WaitView _). Permits (size_of c.args.table.now) (Take (Cv c.args.cv) None) y.own y.target y.place) (sym stood) (omega (arith, c.requires.condition), refl)
-
-pub join_list-requires-in-Some-clause-job : goal.join_list-requires-in-Some-clause-job
-join_list-requires-in-Some-clause-job g c =
-    let v = c.args.seat.now.view in
-    let at : v.target ≡ Some c.in-Some.target = sym c.target.ensures ∙ c.in-Some.is in
-    let left = c.leave_target.ensures.left in
-    let then : resumed (outer (entering (Some c.args.begins) v.target v.place)) ≡ Taking (job.Prepare c.args.cv) ∷ v.place = ap (λ (p : Place). resumed (outer p)) (listing_leaves_at c.args.cv c.in-Some.target v.target c.args.begins v.place c.requires.begins at) in
-    let stood = left.2 ∙ ap (λ (p : Place). stands v p None v.heeds left.1) then in
-    λ _ _. ap (λ (y : WaitView _). top y.place) stood
+    λ _ _. (subst (λ (y : WaitView _). Permits (size_of c.args.table.now) (Take (Cv c.args.cv) None) y.own y.target y.place) (sym stood) (omega (arith, c.requires.condition), refl), ap (λ (y : WaitView _). top y.place) stood)
 
 pub returns-in-Some-clause-listed : goal.returns-in-Some-clause-listed
 returns-in-Some-clause-listed g c =

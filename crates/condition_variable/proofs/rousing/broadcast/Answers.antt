@@ -17,12 +17,9 @@ use Rattle.condition_variable.proofs.rousing.broadcast.Goals as goal
 pub rouse_all-requires-clause-target : goal.rouse_all-requires-clause-target
 rouse_all-requires-clause-target g c = λ _ _. sym c.target.ensures ∙ c.in-None.is
 
-pub rouse_all-requires-clause-place : goal.rouse_all-requires-clause-place
-rouse_all-requires-clause-place g c =
-    let v = c.args.seat.now.view in λ _ _. subst (λ (o : Option ℕ). Permits (size_of c.args.table.now) (Take (Cv c.args.cv) (Some (call.Broadcast c.args.cv))) v.own o v.place) (sym (sym c.target.ensures ∙ c.in-None.is)) (omega (arith, c.requires.condition), refl, c.requires.condition, c.requires.place)
-
-pub rouse_all-requires-clause-job : goal.rouse_all-requires-clause-job
-rouse_all-requires-clause-job g c = λ _ _. ap (λ (o : Option ℕ). top (entering (Some (call.Broadcast c.args.cv)) o c.args.seat.now.view.place)) (sym c.target.ensures ∙ c.in-None.is)
+pub rouse_all-requires-clause-take : goal.rouse_all-requires-clause-take
+rouse_all-requires-clause-take g c =
+    let v = c.args.seat.now.view in λ _ _. (subst (λ (o : Option ℕ). Permits (size_of c.args.table.now) (Take (Cv c.args.cv) (Some (call.Broadcast c.args.cv))) v.own o v.place) (sym (sym c.target.ensures ∙ c.in-None.is)) (omega (arith, c.requires.condition), refl, c.requires.condition, c.requires.place), ap (λ (o : Option ℕ). top (entering (Some (call.Broadcast c.args.cv)) o c.args.seat.now.view.place)) (sym c.target.ensures ∙ c.in-None.is))
 
 pub returns-in-None-clause-woken : goal.returns-in-None-clause-woken
 returns-in-None-clause-woken g c =
@@ -36,36 +33,24 @@ returns-in-None-clause-woken g c =
 pub leave_target-requires-clause-target : goal.leave_target-requires-clause-target
 leave_target-requires-clause-target g c = let at = sym c.target.ensures ∙ c.in-Some.is in λ _ _. (at, c.requires.target c.in-Some.target at)
 
-pub leave_target-requires-clause-place : goal.leave_target-requires-clause-place
-leave_target-requires-clause-place g c =
+pub leave_target-requires-clause-take : goal.leave_target-requires-clause-take
+leave_target-requires-clause-take g c =
     let v = c.args.seat.now.view in
     let at : v.target ≡ Some c.in-Some.target = sym c.target.ensures ∙ c.in-Some.is in
     let inside = c.requires.target c.in-Some.target at in
-    λ _ _. subst (λ (o : Option ℕ). Permits (size_of c.args.table.now) (Take (Cv c.in-Some.target) (Some (call.Broadcast c.args.cv))) v.own o v.place) (sym at) (omega (arith, inside), refl, c.requires.condition, c.requires.place)
-
-pub leave_target-requires-clause-job : goal.leave_target-requires-clause-job
-leave_target-requires-clause-job g c = λ _ _. ap (λ (o : Option ℕ). top (entering (Some (call.Broadcast c.args.cv)) o c.args.seat.now.view.place)) (sym c.target.ensures ∙ c.in-Some.is)
+    λ _ _. (subst (λ (o : Option ℕ). Permits (size_of c.args.table.now) (Take (Cv c.in-Some.target) (Some (call.Broadcast c.args.cv))) v.own o v.place) (sym at) (omega (arith, inside), refl, c.requires.condition, c.requires.place), ap (λ (o : Option ℕ). top (entering (Some (call.Broadcast c.args.cv)) o c.args.seat.now.view.place)) (sym c.target.ensures ∙ c.in-Some.is))
 
 pub rouse_all-requires-in-Some-clause-target : goal.rouse_all-requires-in-Some-clause-target
 rouse_all-requires-in-Some-clause-target g c = λ _ _. ap (λ (y : WaitView _). y.target) c.leave_target.ensures.left.2
 
-pub rouse_all-requires-in-Some-clause-place : goal.rouse_all-requires-in-Some-clause-place
-rouse_all-requires-in-Some-clause-place g c =
+pub rouse_all-requires-in-Some-clause-take : goal.rouse_all-requires-in-Some-clause-take
+rouse_all-requires-in-Some-clause-take g c =
     let v = c.args.seat.now.view in
     let at : v.target ≡ Some c.in-Some.target = sym c.target.ensures ∙ c.in-Some.is in
     let left = c.leave_target.ensures.left in
     let then : resumed (outer (entering (Some (call.Broadcast c.args.cv)) v.target v.place)) ≡ Taking (job.Broadcast c.args.cv) ∷ v.place = ap (λ (o : Option ℕ). resumed (outer (entering (Some (call.Broadcast c.args.cv)) o v.place))) at in
     let stood = left.2 ∙ ap (λ (p : Place). stands v p None v.heeds left.1) then in
-    λ _ _. subst (λ (y : WaitView _). Permits (size_of c.args.table.now) (Take (Cv c.args.cv) None) y.own y.target y.place) (sym stood) (omega (arith, c.requires.condition), refl)
-
-pub rouse_all-requires-in-Some-clause-job : goal.rouse_all-requires-in-Some-clause-job
-rouse_all-requires-in-Some-clause-job g c =
-    let v = c.args.seat.now.view in
-    let at : v.target ≡ Some c.in-Some.target = sym c.target.ensures ∙ c.in-Some.is in
-    let left = c.leave_target.ensures.left in
-    let then : resumed (outer (entering (Some (call.Broadcast c.args.cv)) v.target v.place)) ≡ Taking (job.Broadcast c.args.cv) ∷ v.place = ap (λ (o : Option ℕ). resumed (outer (entering (Some (call.Broadcast c.args.cv)) o v.place))) at in
-    let stood = left.2 ∙ ap (λ (p : Place). stands v p None v.heeds left.1) then in
-    λ _ _. ap (λ (y : WaitView _). top y.place) stood
+    λ _ _. (subst (λ (y : WaitView _). Permits (size_of c.args.table.now) (Take (Cv c.args.cv) None) y.own y.target y.place) (sym stood) (omega (arith, c.requires.condition), refl), ap (λ (y : WaitView _). top y.place) stood)
 
 pub returns-in-Some-clause-woken : goal.returns-in-Some-clause-woken
 returns-in-Some-clause-woken g c =

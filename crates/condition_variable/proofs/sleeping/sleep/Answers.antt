@@ -12,7 +12,7 @@ use Rattle.latch.specs.Reads.{went, BeginsWait, ReadLatch}
 use Rattle.latch.proofs.Walks.{went_through}
 use Rattle.condition_variable.specs.Visits.{Visits, stands}
 use Rattle.condition_variable.specs.Calls.{Awakes, relisted, wait_begins}
-use Rattle.condition_variable.proofs.Walks.{stands_through, not_off, not_on}
+use Rattle.condition_variable.proofs.Walks.{stands_through, waits_again, not_off, not_on}
 use Rattle.condition_variable.proofs.sleeping.sleep.Goals as goal
 
 pub go_to_list-requires-clause-begins : goal.go_to_list-requires-clause-begins
@@ -63,17 +63,9 @@ pub wait_latch_only-requires-clause-place : goal.wait_latch_only-requires-clause
 wait_latch_only-requires-clause-place g c =
     let v = c.args.seat.now.view in
     let is : v.target ≡ Some c.args.cv = sym c.target.ensures ∙ c.sleeps_on.ensures.is c.if-not-sleeps_on.false in
-    let w = c.loop.seat.view in
     let inv = c.loop.invariant.2 in
     let l = c.was_signalled.ensures.looked in
-    let own : number_of w.own ≡ number_of v.own = ap (λ (y : WaitView _). number_of y.own) inv.3 in
-    let part : List Made = made (Reset None) l.1 ∷ l.2 in
-    let last : List Made = inv.2 ++ part in
-    let awakes : Awakes (number_of v.own) c.args.cv (wait_begins c.args.cv inv.0) l.0 last = record { wait = inv.2; look = l.2; word = l.1; split = refl; waits = inv.5; set = inv.6; looks = subst (λ (o : ℕ). Visits c.args.cv None l.0 (relisted o l.0) (Some c.args.cv) l.2) own l.5 } in
-    let off_it : c.was_signalled.result ≡ false = c.if-was_signalled.false in
-    let x = c.was_signalled.new.seat.view in
-    let here : x ≡ stands w (SleepWaiting c.args.cv ∷ v.place) (Some c.args.cv) v.heeds part = l.4 ∙ (λ i. stands w (cond (off_it i) (resumed (outer (inv.3 i).place)) (SleepWaiting c.args.cv ∷ outer (inv.3 i).place)) (Some c.args.cv) (cond (off_it i) true (inv.3 i).heeds) part) in
-    let waits : x ≡ went v (SleepWaiting c.args.cv ∷ v.place) (inv.1 ++ last) = stands_through v w x _ (SleepWaiting c.args.cv ∷ v.place) v.target (Some c.args.cv) v.heeds v.heeds (inv.1 ++ inv.2) part inv.3 here ∙ (λ i. stands v (SleepWaiting c.args.cv ∷ v.place) (sym is i) v.heeds (append_assoc inv.1 inv.2 part i)) in
+    let waits = waits_again v c.loop.seat.view c.was_signalled.new.seat.view c.args.cv c.was_signalled.result inv.1 inv.2 (made (Reset None) l.1 ∷ l.2) is c.if-was_signalled.false inv.3 l.4 in
     λ _ _. subst (λ (y : WaitView _). MayBegin (call.Wait Latch) y.place) (sym waits) tt
 
 pub loop-preserved : goal.loop-preserved
@@ -89,8 +81,7 @@ loop-preserved g c =
     let awakes : Awakes (number_of v.own) c.args.cv (wait_begins c.args.cv inv.0) l.0 last = record { wait = inv.2; look = l.2; word = l.1; split = refl; waits = inv.5; set = inv.6; looks = subst (λ (o : ℕ). Visits c.args.cv None l.0 (relisted o l.0) (Some c.args.cv) l.2) own l.5 } in
     let off_it : c.was_signalled.result ≡ false = c.if-was_signalled.false in
     let x = c.was_signalled.new.seat.view in
-    let here : x ≡ stands w (SleepWaiting c.args.cv ∷ v.place) (Some c.args.cv) v.heeds part = l.4 ∙ (λ i. stands w (cond (off_it i) (resumed (outer (inv.3 i).place)) (SleepWaiting c.args.cv ∷ outer (inv.3 i).place)) (Some c.args.cv) (cond (off_it i) true (inv.3 i).heeds) part) in
-    let waits : x ≡ went v (SleepWaiting c.args.cv ∷ v.place) (inv.1 ++ last) = stands_through v w x _ (SleepWaiting c.args.cv ∷ v.place) v.target (Some c.args.cv) v.heeds v.heeds (inv.1 ++ inv.2) part inv.3 here ∙ (λ i. stands v (SleepWaiting c.args.cv ∷ v.place) (sym is i) v.heeds (append_assoc inv.1 inv.2 part i)) in
+    let waits = waits_again v w x c.args.cv c.was_signalled.result inv.1 inv.2 part is off_it inv.3 l.4 in
     let set = c.wait_latch_only.ensures.set in
     let mine : set.0 ≡ number_of v.own = sym (ap number_of set.2) ∙ ap (λ (y : WaitView _). number_of y.own) waits in
     let on = went_through v x c.wait_latch_only.new.seat.view _ (Resetting c.args.cv ∷ v.place) (inv.1 ++ last) set.1 waits (set.3 ∙ ap (λ (y : WaitView _). went x (resumed y.place) set.1) waits) in

@@ -1,5 +1,5 @@
 use Rattle.std.proofs.Common.{◌≡◌, []}
 use Rattle.condition_variable.proofs.tests.threads.set_around.Given as goal
 
-abbrev pub invariant-loop-round : goal.invariant-loop-round
-invariant-loop-round l = (l.seat.table_id ≡ l.initial.seat.table_id) × (l.seat.view.place ≡ [])
+abbrev pub invariant-loop : goal.invariant-loop
+invariant-loop l = (l.seat.table_id ≡ l.table.table_id) × (l.seat.view.place ≡ [])

@@ -2,4 +2,4 @@ use Rattle.std.proofs.Common.{◌≡◌, [], Some}
 use Rattle.condition_variable.proofs.tests.threads.sleep_often.Given as goal
 
 abbrev pub invariant-loop : goal.invariant-loop
-invariant-loop g l = (l.seat.table_id ≡ l.initial.seat.table_id) × (l.seat.view.place ≡ []) × (l.seat.view.target ≡ Some l.go)
+invariant-loop g l = (l.seat.table_id ≡ l.table.table_id) × (l.seat.view.place ≡ []) × (l.seat.view.target ≡ Some l.go)
