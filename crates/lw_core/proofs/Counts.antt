@@ -13,7 +13,7 @@ use Rattle.seat_roster.specs.Totals.{total}
 use Rattle.seat_roster.specs.Roster.{count, one_if}
 use Rattle.lw_core.specs.Words.{state_at, guard_at, grant_of, is_free, lock_part}
 use Rattle.lw_core.specs.WaitLists.{taken_from, kept_from, home_list}
-use Rattle.lw_core.specs.Machine.{LwState, Place, outer, not_held, held, hold_in, mode_in, number_of, lock_of, lock_number, IsInRange, word_of, becomes, moved, gripped, on_grant, let_go, detached, next, MayDetach, Allowed, after, HoldsNothing, releasing, guard_hold, guard_becomes}
+use Rattle.lw_core.specs.Machine.{LwState, Place, outer, not_held, held, hold_in, mode_in, number_of, lock_of, lock_number, IsInRange, word_of, becomes, moved, moved_list, gripped, on_grant, let_go, detached, next, MayDetach, Allowed, after, HoldsNothing, releasing, guard_hold, guard_becomes}
 use Rattle.lw_core.specs.CountsHolders.{is_shared, is_exclusive, CountsHolders}
 use Rattle.lw_core.specs.Rule.{numbers_of, EachCountsHolders, Rule}
 use Rattle.lw_core.specs.Runs.{drew_one, stays, comes, both, spent, drawn, split, joined}
@@ -82,11 +82,11 @@ module _ (lawful : ℕ → List ℕ → Type 0) (z : Size) (s : LwState) (r : Ru
     by_kind (kind.Unlock l c) on below numbered ok = flags l _ _ below refl (part_unlocked c _) (small_unlocked c _ (r.counts l below).fits)
     by_kind (kind.Flag l) on below numbered ok = flags l _ _ below refl (part_set 30 _ (omega arith)) (small_set 30 _ (omega arith) (r.counts l below).fits)
     by_kind (kind.Wake l w to) on below numbered ok = let n : ℕ = get_or s.words (state_at l) 0 in
-        on_exchange n w (λ (b : Bool). CountsHolders (get_or (set s.words (state_at l) (cond b to n)) (state_at l) 0) (map (mode_in l) (set s.views id (moved v (kind.Wake l w to) n (detached b n v.place)))))
+        on_exchange n w (λ (b : Bool). CountsHolders (get_or (set s.words (state_at l) (cond b to n)) (state_at l) 0) (map (mode_in l) (set s.views id (moved_list v (kind.Wake l w to) n (home_list s.homes l) (detached b n v.place)))))
         (λ hit. woken v.place hit ok)
         (λ miss. read l _ below refl)
       where
-        woken : (p : Place) → get_or s.words (state_at l) 0 ≡ w → MayDetach l w to p → CountsHolders (get_or (set s.words (state_at l) to) (state_at l) 0) (map (mode_in l) (set s.views id (moved v (kind.Wake l w to) (get_or s.words (state_at l) 0) (detached true (get_or s.words (state_at l) 0) v.place))))
+        woken : (p : Place) → get_or s.words (state_at l) 0 ≡ w → MayDetach l w to p → CountsHolders (get_or (set s.words (state_at l) to) (state_at l) 0) (map (mode_in l) (set s.views id (moved_list v (kind.Wake l w to) (get_or s.words (state_at l) 0) (home_list s.homes l) (detached true (get_or s.words (state_at l) 0) v.place))))
         woken (Detaching k updated found word ∷ p) hit d = flags l to _ below refl
             (ap lock_part d.2 ∙ (part_woken (taken_from found) (kept_from found) w ∙ ap lock_part (sym hit)))
             (subst (λ (x : ℕ). x < 2 ^ 32) (sym d.2) (small_woken (taken_from found) (kept_from found) w (subst (λ (x : ℕ). x < 2 ^ 32) hit (r.counts l below).fits)))

@@ -22,7 +22,7 @@ use Rattle.lw_core.specs.declared.view.Size.{Size}
 use Rattle.lw_core.specs.declared.view.View.{View}
 use Rattle.lw_core.specs.Words.{Waiters, state_at, guard_at, grant_of, is_free, lock_part, locked, release_ok, has_waiters, has_flag, var_at}
 use Rattle.lw_core.specs.WaitLists.{times_on, taken_from, kept_from, has_locker, home_list}
-use Rattle.lw_core.specs.Machine.{LwState, Place, outer, not_held, held, hold_in, mode_in, fresh, number_of, lock_number, IsInRange, word_of, becomes, moved, gripped, on_grant, on_refusal, calls_for_wake, let_go, after_store, in_hand, detached, posted, surplus_posted, next, MayTake, MayDetach, Allowed, after, HoldsNothing, releasing, taking, guard_hold}
+use Rattle.lw_core.specs.Machine.{LwState, Place, outer, not_held, held, hold_in, mode_in, fresh, number_of, lock_number, IsInRange, word_of, becomes, moved, moved_list, gripped, on_grant, on_refusal, calls_for_wake, let_go, after_store, in_hand, detached, posted, surplus_posted, next, MayTake, MayDetach, Allowed, after, HoldsNothing, releasing, taking, guard_hold}
 use Rattle.lw_core.specs.Stances.{Stance, hand_list, hand_at, on_lists, queued_at, announced_at, due_at, stance_of}
 use Rattle.lw_core.specs.CountsHolders.{is_shared, is_exclusive}
 use Rattle.lw_core.specs.SeatFits.{PlaceFits}
@@ -173,7 +173,7 @@ module _ (lawful : ℕ → List ℕ → Type 0) (z : Size) (s : LwState) (r : Ru
   by_kind (kind.WaitStore q x) inside ok free none = goes refl (stored_goes l v.holds v.surplus q x v.own v.place ok fits)
   by_kind kind.WaitLoad inside ok free none = goes refl (reread_goes l v.holds v.surplus _ v.place ok fits)
   by_kind (kind.Wake i w to) inside ok free none = let n : ℕ = get_or s.words (state_at i) 0 in let k : LwStep = kind.Wake i w to in
-      on_exchange n w (λ (b : Bool). Outcome l (get_or (set s.words (state_at i) (cond b to n)) (state_at l) 0) v (moved v k n (detached b n v.place)))
+      on_exchange n w (λ (b : Bool). Outcome l (get_or (set s.words (state_at i) (cond b to n)) (state_at l) 0) v (moved_list v k n (home_list s.homes i) (detached b n v.place)))
       (λ hit. dite (ℕ_discrete i l) (λ is. woken l i w to _ v _ v.place ok (stored_here i to is)) (λ ne. goes refl (detached_goes l v.holds v.surplus i w to n v.place ne ok fits)))
       (λ miss. goes refl (missed_goes l i w to n v.place ok))
   by_kind (kind.Post q None) inside ok free none = goes refl (posted_goes l v.holds v.surplus q v.own v.place ok fits)

@@ -25,6 +25,7 @@ pub mod Markers
 pub mod Seats
 pub mod FramesStand
 pub mod WordsAreMade
+pub mod ListsAreMade
 pub mod Beside
 pub mod StillAnswered
 pub mod Attending

@@ -5,7 +5,6 @@ use Rattle.lw_core.specs.declared.step.Call.{Call}
 use Rattle.lw_core.specs.declared.step.LwStep.{LwStep}
 use Rattle.lw_core.specs.declared.view.Made.{Made}
 use Rattle.lw_core.specs.declared.view.View.{View}
-use Rattle.lw_core.specs.Machine.{made}
 use Rattle.lw_core.specs.Programs.{begins_call, begun_by, calls, BeginsNone, Makes, MakesFrom}
 
 calls_append : (xs ys : List Made) → calls (xs ++ ys) ≡ calls xs + calls ys
@@ -16,10 +15,10 @@ none_more true c n e is = absurd (cc)
 none_more false c n e is = omega arith
 
 -- a step that isn't counted
-pub count_kept : (counted : LwStep → Bool) (v w : View) (k : LwStep) (n : ℕ) → w.steps ≡ v.steps ++ made k n ∷ [] → counted k ≡ false → count_by (λ (m : Made). counted m.step) w.steps ≡ count_by (λ (m : Made). counted m.step) v.steps
-count_kept counted v w k n is none =
-    let all = ap (count_by (λ (m : Made). counted m.step)) is in let a = sum_by-append (λ (m : Made). cond (counted m.step) 1 0) v.steps (made k n ∷ []) in
-    none_more (counted k) (count_by (λ (m : Made). counted m.step) w.steps) (count_by (λ (m : Made). counted m.step) v.steps) (omega arith) none
+pub count_kept : (counted : LwStep → Bool) (v w : View) (m : Made) → w.steps ≡ v.steps ++ m ∷ [] → counted m.step ≡ false → count_by (λ (m : Made). counted m.step) w.steps ≡ count_by (λ (m : Made). counted m.step) v.steps
+count_kept counted v w m is none =
+    let all = ap (count_by (λ (m : Made). counted m.step)) is in let a = sum_by-append (λ (m : Made). cond (counted m.step) 1 0) v.steps (m ∷ []) in
+    none_more (counted m.step) (count_by (λ (m : Made). counted m.step) w.steps) (count_by (λ (m : Made). counted m.step) v.steps) (omega arith) none
 
 -- what none of the steps since counted
 pub counted_since : (counted : LwStep → Bool) (v w : View) (more : List Made) → w.steps ≡ v.steps ++ more → count_by (λ (m : Made). counted m.step) w.steps ≡ count_by (λ (m : Made). counted m.step) v.steps → count_by (λ (m : Made). counted m.step) more ≡ 0
@@ -41,9 +40,9 @@ part_on None v u w begun more is none = none ∙ begun
 part_on (Some c) v u w begun more is none = makes_on c v u w begun more is none
 
 -- the first step of a call, or of a part of one
-pub makes_first : (c : Call) (k : LwStep) (n : ℕ) (v w : View) → w.steps ≡ v.steps ++ made k n ∷ [] → begun_by k ≡ Some c → Makes c v w
-makes_first c k n v w is begins = record { first = made k n; then = []; steps = is; begins = begins; only = refl }
+pub makes_first : (c : Call) (m : Made) (v w : View) → w.steps ≡ v.steps ++ m ∷ [] → begun_by m.step ≡ Some c → Makes c v w
+makes_first c m v w is begins = record { first = m; then = []; steps = is; begins = begins; only = refl }
 
-pub part_first : (b : Option Call) (k : LwStep) (n : ℕ) (v w : View) → w.steps ≡ v.steps ++ made k n ∷ [] → begun_by k ≡ b → begins_call k ≡ is_some b → MakesFrom b v w
-part_first None k n v w is begins none = count_kept begins_call v w k n is none
-part_first (Some c) k n v w is begins one = makes_first c k n v w is begins
+pub part_first : (b : Option Call) (m : Made) (v w : View) → w.steps ≡ v.steps ++ m ∷ [] → begun_by m.step ≡ b → begins_call m.step ≡ is_some b → MakesFrom b v w
+part_first None m v w is begins none = count_kept begins_call v w m is none
+part_first (Some c) m v w is begins one = makes_first c m v w is begins

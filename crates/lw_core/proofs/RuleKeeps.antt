@@ -38,6 +38,7 @@ use Rattle.lw_core.proofs.Guarding.{knows_not_held}
 use Rattle.lw_core.proofs.Touches.{hold_here, top_is, fresh_hold, guards_held}
 use Rattle.lw_core.proofs.Roster.{roster_step, roster_draw, roster_split, roster_join}
 use Rattle.lw_core.proofs.WordsAreMade.{made_step, made_draw, made_split, made_join, made_opens}
+use Rattle.lw_core.proofs.ListsAreMade.{lists_made_step, lists_made_draw, lists_made_split, lists_made_join, lists_made_opens}
 use Rattle.lw_core.specs.FramesStand.{AllStand}
 use Rattle.lw_core.proofs.FramesStand.{frames_step, frames_draw, frames_split, frames_join}
 use Rattle.lw_core.proofs.Places.{places_step, places_draw, places_split, places_join, fresh_fits}
@@ -118,6 +119,7 @@ module _ (lawful : ℕ → List ℕ → Type 0) (z : Size) (s : LwState) (r : Ru
           sized = record { locks = r.sized.locks; procs = r.sized.procs; long = length-set s.words i x ∙ long; slots = slots_after };
           roster = roster_after;
           made = made_step lawful z s r id v at k inside numbered ok;
+          lists_made = lists_made_step lawful z s r id v at k inside ok;
           places = places_after;
           frames = frames_step lawful z s r id v at (λ l below clear. (tells_list l below numbered clear).0) k inside ok;
           counts = counts_after;
@@ -181,6 +183,7 @@ module _ (lawful : ℕ → List ℕ → Type 0) (z : Size) (s : LwState) (r : Ru
           sized = record { locks = r.sized.locks; procs = r.sized.procs; long = length-set s.words 0 (n + 1) ∙ long; slots = slots };
           roster = roster_draw lawful z s r id v at zero_is free more;
           made = made_draw lawful z s r id v at;
+          lists_made = lists_made_draw lawful z s r id v at;
           places = places_draw lawful z s r id v at;
           frames = frames_draw lawful z s r id v at;
           counts = counts_draw lawful z s r id v at;
@@ -206,6 +209,7 @@ module _ (lawful : ℕ → List ℕ → Type 0) (z : Size) (s : LwState) (r : Ru
           sized = r.sized;
           roster = roster_split lawful z s r id v at;
           made = made_split lawful z s r id v at;
+          lists_made = lists_made_split lawful z s r id v at;
           places = places_split lawful z s r id v at;
           frames = frames_split lawful z s r id v at;
           counts = counts_split lawful z s r id v at;
@@ -234,6 +238,7 @@ module _ (lawful : ℕ → List ℕ → Type 0) (z : Size) (s : LwState) (r : Ru
           sized = r.sized;
           roster = roster_join lawful z s r id v at other w behind settled;
           made = made_join lawful z s r id v at other w apart from;
+          lists_made = lists_made_join lawful z s r id v at other w apart from;
           places = places_join lawful z s r id v at other w behind from;
           frames = frames_join lawful z s r id v at other w;
           counts = counts_join lawful z s r id v at other w behind empty;
@@ -298,6 +303,7 @@ module _ (lawful : ℕ → List ℕ → Type 0) (z : Size) where
       sized = record { locks = locks; procs = procs; long = long; slots = length-map lists maybe.some ∙ many };
       roster = subst (λ (n : ℕ). Roster z.procs n (numbered (Some 0) ∷ [])) (sym h.0) (roster_first z.procs some);
       made = made_opens z words (Some 0) h;
+      lists_made = lists_made_opens z lists (Some 0) many empty;
       places = λ id u e. first_fits id u e;
       frames = λ id u e. first_stands id u e;
       counts = λ l below. let e = h.1 l below in let none : mode_in l (fresh (Some 0)) ≡ None = ap (λ (x : Hold). x.mode) (fresh_hold (Some 0) l) in

@@ -13,19 +13,19 @@ use Rattle.lw_core.specs.declared.step.Call.{Call}
 use Rattle.lw_core.specs.declared.step.Call.TheVariants as call
 use Rattle.lw_core.specs.declared.step.LwStep.{LwStep}
 use Rattle.lw_core.specs.declared.step.LwStep.TheVariants as kind
-use Rattle.lw_core.specs.declared.view.Frame.TheVariants.{Trying, Appending, Removing, Detaching, Returning, Calling, Unhanding}
+use Rattle.lw_core.specs.declared.view.Frame.TheVariants.{Trying}
 use Rattle.lw_core.specs.declared.view.Hold.{Hold}
 use Rattle.lw_core.specs.declared.view.View.{View}
 use Rattle.lw_core.specs.declared.view.Size.{Size}
 use Rattle.lw_core.specs.declared.view.Waiter.{Waiter}
 use Rattle.lw_core.specs.Words.{Waiters, locked, has_flag}
-use Rattle.lw_core.specs.Machine.{Place, not_held, held, hold_in, number_of, outer, on_grant, moved, gripped, lock_of, lock_number, exchanges, takes_list, sends_home, as_waiters, act_of, next, MaySendHome, MayDetach, Allowed, BeginsTaking, guard_hold}
+use Rattle.lw_core.specs.Machine.{Place, not_held, held, hold_in, number_of, outer, on_grant, moved, gripped, lock_of, lock_number, exchanges, takes_list, sends_home, as_waiters, act_of, next, Allowed, BeginsTaking, guard_hold}
 use Rattle.lw_core.specs.Stances.{Hand, hand_at}
 use Rattle.lw_core.specs.Ops.{about}
 use Rattle.lw_core.specs.Seats.{SeatView, seat_view, mode_of_hold, Carries, IsSeated}
 use Rattle.lw_core.specs.Sending.{IsTaking, IsSending, modes_then, pokes_by}
 use Rattle.lw_core.specs.Told.{Sat, lock_in_hand, HandFollows, does}
-use Rattle.lw_core.proofs.Turning.{takes_none}
+use Rattle.lw_core.proofs.Turning.{takes_none, sending_at, detaching_at}
 use Rattle.lw_core.proofs.Touches.{on_exchange, either_way, numbers_kept, poked_keeps}
 
 -- the mode of a lock, among the modes
@@ -160,18 +160,6 @@ module _ (lawful : ℕ → List ℕ → Type 0) where
   seated_sending s t number modes pokes l (kind.Unlock j clears) n found sends h ok table view carried follows = seated_step s t number modes modes pokes pokes (kind.Unlock j clears) n found h ok table view carried follows h.modes_are h.long h.pokes_are
   seated_sending s t number modes pokes l (kind.Wake j w to) n found sends h ok table view carried follows = seated_step s t number modes modes pokes pokes (kind.Wake j w to) n found h ok table view carried follows h.modes_are h.long h.pokes_are
   seated_sending s t number modes pokes l k n found sends h ok table view carried follows = absurd sends
-
-  sending_at : (l j own : ℕ) (clears : Bool) (p : Place) → j ≡ l → MaySendHome j clears own p → lock_in_hand (hand_at p) ≡ Some l
-  sending_at l j own clears (Appending k w found ∷ p) same ok = ap Some (ok.0 ∙ same)
-  sending_at l j own clears (Removing k w found here ∷ p) same ok = ap Some (ok.0 ∙ same)
-  sending_at l j own clears (Returning k old found n ∷ p) same ok = ap Some (ok.0 ∙ same)
-  sending_at l j own clears (Calling k found marked [] ∷ p) same ok = ap Some (ok.0 ∙ same)
-  sending_at l j own clears (Unhanding k found ∷ p) same ok = ap Some (ok.0 ∙ same)
-  sending_at l j own clears p same ok = absurd ok
-
-  detaching_at : (l j w to : ℕ) (p : Place) → j ≡ l → MayDetach j w to p → lock_in_hand (hand_at p) ≡ Some l
-  detaching_at l j w to (Detaching k updated found word ∷ p) same ok = ap Some (ok.0 ∙ same)
-  detaching_at l j w to p same ok = absurd ok
 
   -- before such a step the list is in hand, and after one that failed it is still
   sending_hand : (l : ℕ) (k : LwStep) (v : View) → IsSending l k → Allowed lawful k v → lock_in_hand (hand_at v.place) ≡ Some l

@@ -428,6 +428,19 @@ takes_none l (TakingList k ∷ Comparing j old ∷ p) ok = refl
 takes_none l (TakingList k ∷ Storing j x b ∷ p) ok = refl
 takes_none l p ok = absurd ok
 
+-- who sends a list home has it in hand
+pub sending_at : (l j own : ℕ) (clears : Bool) (p : Place) → j ≡ l → MaySendHome j clears own p → lock_in_hand (hand_at p) ≡ Some l
+sending_at l j own clears (Appending k w found ∷ p) same ok = ap Some (ok.0 ∙ same)
+sending_at l j own clears (Removing k w found here ∷ p) same ok = ap Some (ok.0 ∙ same)
+sending_at l j own clears (Returning k old found n ∷ p) same ok = ap Some (ok.0 ∙ same)
+sending_at l j own clears (Calling k found marked [] ∷ p) same ok = ap Some (ok.0 ∙ same)
+sending_at l j own clears (Unhanding k found ∷ p) same ok = ap Some (ok.0 ∙ same)
+sending_at l j own clears p same ok = absurd ok
+
+pub detaching_at : (l j w to : ℕ) (p : Place) → j ≡ l → MayDetach j w to p → lock_in_hand (hand_at p) ≡ Some l
+detaching_at l j w to (Detaching k updated found word ∷ p) same ok = ap Some (ok.0 ∙ same)
+detaching_at l j w to p same ok = absurd ok
+
 module _ (own : Option ℕ) (s : ℕ) (poked downed : List ℕ) where
   hand_unlocked : (holds : List Hold) (l o : ℕ) (c : Bool) (p : Place) → MaySendHome l c o p → PlaceFits holds s p → lock_in_hand (hand_at (sent_home s p)) ≡ None
   hand_unlocked holds l o c (Appending k w found ∷ Attempting a m ∷ Queued b n u ∷ q) ok fits = refl

@@ -18,7 +18,7 @@ use Rattle.lw_core.specs.declared.view.View.{View}
 use Rattle.lw_core.specs.declared.view.Waiter.{Waiter}
 use Rattle.lw_core.specs.Words.{state_at, release_ok, word_count, Opens}
 use Rattle.lw_core.specs.WaitLists.{home_list}
-use Rattle.lw_core.specs.Machine.{LwState, number_of, lock_number, word_of, becomes, made, next, IsInRange, Allowed, after, fresh}
+use Rattle.lw_core.specs.Machine.{LwState, number_of, lock_number, word_of, becomes, list_of, made, made_with, next, IsInRange, Allowed, after, fresh}
 use Rattle.lw_core.specs.WordsAreMade.{effect, all_steps, opened, WordsAreMade}
 use Rattle.lw_core.specs.Rule.{EachWordIsMade, Rule}
 use Rattle.lw_core.specs.Runs.{drew_one, stays, comes, both, spent, drawn, split, joined}
@@ -26,7 +26,7 @@ use Rattle.lw_core.proofs.Touches.{either_way, poked_keeps}
 use Rattle.lw_core.proofs.Seats.{numbered_as, own_inside}
 
 -- a step is one more among those of its seat
-steps_after : (k : LwStep) (v : View) (n : ℕ) (found : List Waiter) → all_steps (next k v n found) ≡ signed (number_of v.own) (v.steps ++ made k n ∷ []) ++ v.inherited
+pub steps_after : (k : LwStep) (v : View) (n : ℕ) (found : List Waiter) → all_steps (next k v n found) ≡ signed (number_of v.own) (v.steps ++ made_with k n (list_of k n found (number_of v.own) v.place) ∷ []) ++ v.inherited
 steps_after (kind.Grant l m w) v n found = either_way all_steps (eqb n w) _ _ (signed (number_of v.own) (v.steps ++ made (kind.Grant l m w) n ∷ []) ++ v.inherited) refl refl
 steps_after (kind.Post q b) v n found = poked_keeps all_steps (λ _ _. refl) b _
 steps_after k v n found = refl
@@ -46,9 +46,9 @@ module _ (lawful : ℕ → List ℕ → Type 0) (z : Size) (s : LwState) (r : Ru
   made_step k inside numbered ok =
       let o : ℕ = number_of v.own in let i : ℕ = word_of z o k in let n : ℕ = get_or s.words i 0 in let w : View = next k v n (home_list s.homes (lock_number k)) in
       let there = own_inside lawful z s r id v at o (numbered_as lawful z s r id v at numbered) in let long = r.sized.long in let within = word_inside lawful z v o there k inside ok in
-      let steps : List (ℕ × Made) = signed o (v.steps ++ made k n ∷ []) ++ v.inherited in
-      for_same _ _ (seen all_steps s.views id w steps (steps_after k v n (home_list s.homes (lock_number k)))) (WordsAreMade z (set s.words i (becomes k n)))
-      (roster.made_step (effect z) (opened z) (word_count z) s.words (map all_steps s.views) r.made id (all_steps v) steps (o, made k n) (at_map all_steps s.views id v at) (one_more o o v.steps v.inherited (made k n) refl) (omega arith) refl)
+      let found : List Waiter = home_list s.homes (lock_number k) in let m : Made = made_with k n (list_of k n found o v.place) in let steps : List (ℕ × Made) = signed o (v.steps ++ m ∷ []) ++ v.inherited in
+      for_same _ _ (seen all_steps s.views id w steps (steps_after k v n found)) (WordsAreMade z (set s.words i (becomes k n)))
+      (roster.made_step (effect z) (opened z) (word_count z) s.words (map all_steps s.views) r.made id (all_steps v) steps (o, m) (at_map all_steps s.views id v at) (one_more o o v.steps v.inherited m refl) (omega arith) refl)
 
   pub made_draw : EachWordIsMade z (drawn s id v)
   made_draw = let n : ℕ = get_or s.words 0 0 in for_same _ _ (unseen all_steps s.views id v (drew_one v) at refl) (WordsAreMade z (set s.words 0 (n + 1)))

@@ -2,6 +2,7 @@ pub mod Words
 pub mod WaitLists
 pub mod Machine
 pub mod WordsAreMade
+pub mod ListsAreMade
 pub mod Stances
 pub mod CountsHolders
 pub mod GuardedIsLawful

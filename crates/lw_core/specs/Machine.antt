@@ -197,8 +197,12 @@ exchanges (Look begins) n = false
 exchanges Down n = true
 exchanges (SetReleaseOk l) n = true
 
+-- a step that found the word n and took this list in hand or sent it home, and one that moved no list
+abbrev pub made_with : LwStep → ℕ → List Waiter → Made
+made_with k n list = record { step = k; found = n; list = list }
+
 abbrev pub made : LwStep → ℕ → Made
-made k n = record { step = k; found = n }
+made k n = made_with k n []
 
 abbrev pub want_of : Mode → Want
 want_of Shared = want.Shared
@@ -356,9 +360,37 @@ answered (Allowing l ∷ p) = p
 answered (Woken l m ∷ p) = Attempting l m ∷ Unqueued l m (want_of m) true ∷ p
 answered p = p
 
+-- LISTS. What a step that sends the list in hand home leaves of it
+abbrev pub left_at : Place → ℕ → List Waiter
+left_at (Appending l w found ∷ p) own = joined_by (waiter own w) found
+left_at (Removing l w found true ∷ p) own = without own found
+left_at (Removing l w found false ∷ p) own = found
+left_at (Detaching l updated found w ∷ p) own = kept_from found
+left_at (Returning l old found n ∷ p) own = found
+left_at (Calling l found marked [] ∷ p) own = lockers_from found
+left_at (Unhanding l found ∷ p) own = found
+left_at p own = []
+
+abbrev pub sends_home : LwStep → ℕ → Bool
+sends_home (Unlock l clears) n = true
+sends_home (Wake l w to) n = n == w
+sends_home k n = false
+
+abbrev pub takes_list : LwStep → ℕ → Bool
+takes_list (Lock l begins) n = has_flag locked n == 0
+takes_list k n = false
+
+-- the list that the step took in hand, where this one was at home, or sent home
+abbrev pub list_of : LwStep → ℕ → List Waiter → ℕ → Place → List Waiter
+list_of k n found own p = cond (takes_list k n) found (cond (sends_home k n) (left_at p own) [])
+
 -- VIEWS. The view at the place p, after one step more
 abbrev pub moved : View → LwStep → ℕ → Place → View
 moved v k n p = record v { place = p; steps = v.steps ++ made k n ∷ [] }
+
+-- the same, where the step may move a list
+abbrev pub moved_list : View → LwStep → ℕ → List Waiter → Place → View
+moved_list v k n found p = record v { place = p; steps = v.steps ++ made_with k n (list_of k n found (number_of v.own) v.place) ∷ [] }
 
 -- the same, with another hold of the lock
 abbrev pub gripped : View → LwStep → ℕ → ℕ → Place → Hold → ℕ → View
@@ -398,39 +430,20 @@ next (Refuse l m w) v n found = moved v (Refuse l m w) n (cond (n == w) (on_refu
 next (Sub l m begins) v n found = gripped v (Sub l m begins) l n (let_go begins l (n - grant_of m) (releasing begins v.place)) not_held v.grants
 next (Peek l begins) v n found = moved v (Peek l begins) n (peeked begins v.surplus n v.place)
 next (Guard l k o) v n found = gripped v (Guard l k o) l n v.place (guard_hold o (hold_in l v) k n) v.grants
-next (Lock l begins) v n found = moved v (Lock l begins) n (cond (has_flag locked n == 0) (in_hand found (outer (taking begins v.place))) (Spinning l ∷ outer (taking begins v.place)))
+next (Lock l begins) v n found = moved_list v (Lock l begins) n found (cond (has_flag locked n == 0) (in_hand found (outer (taking begins v.place))) (Spinning l ∷ outer (taking begins v.place)))
 next (VarLoad l) v n found = moved v (VarLoad l) n (compared n v.place)
 next (VarStore l x) v n found = moved v (VarStore l x) n (published v.place)
-next (Unlock l clears) v n found = moved v (Unlock l clears) n (sent_home v.surplus v.place)
+next (Unlock l clears) v n found = moved_list v (Unlock l clears) n found (sent_home v.surplus v.place)
 next (Flag l) v n found = moved v (Flag l) n (flagged v.place)
 next (WaitStore q x) v n found = moved v (WaitStore q x) n (stored v.surplus v.place)
 next WaitLoad v n found = with_surplus (moved v WaitLoad n (reread v.surplus n v.place)) (surplus_found n v.place v.surplus)
-next (Wake l w to) v n found = moved v (Wake l w to) n (detached (n == w) n v.place)
+next (Wake l w to) v n found = moved_list v (Wake l w to) n found (detached (n == w) n v.place)
 next (Post q begins) v n found = poked_by begins (with_surplus (moved v (Post q begins) n (posted (surplus_posted v.place v.surplus) v.place)) (surplus_posted v.place v.surplus))
 next (Look begins) v n found = moved v (Look begins) n (looked (n == 0) v.place)
 next Down v n found = record v { place = outer v.place; steps = v.steps ++ made Down n ∷ []; downed = downed_at (outer v.place) v.own v.downed }
 next (SetReleaseOk l) v n found = record v { place = answered v.place; steps = v.steps ++ made (SetReleaseOk l) n ∷ []; waits = waits_after v.place v.waits }
 
--- LISTS. What a step that sends the list in hand home leaves of it
-abbrev pub left_at : Place → ℕ → List Waiter
-left_at (Appending l w found ∷ p) own = joined_by (waiter own w) found
-left_at (Removing l w found true ∷ p) own = without own found
-left_at (Removing l w found false ∷ p) own = found
-left_at (Detaching l updated found w ∷ p) own = kept_from found
-left_at (Returning l old found n ∷ p) own = found
-left_at (Calling l found marked [] ∷ p) own = lockers_from found
-left_at (Unhanding l found ∷ p) own = found
-left_at p own = []
-
-abbrev pub sends_home : LwStep → ℕ → Bool
-sends_home (Unlock l clears) n = true
-sends_home (Wake l w to) n = n == w
-sends_home k n = false
-
-abbrev pub takes_list : LwStep → ℕ → Bool
-takes_list (Lock l begins) n = has_flag locked n == 0
-takes_list k n = false
-
+-- SLOTS. A list as it lies in one
 abbrev pub as_waiters : List Waiter → Waiters
 as_waiters ws = record { items = ws }
 

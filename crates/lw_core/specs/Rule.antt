@@ -8,6 +8,7 @@ use Rattle.lw_core.specs.Words.{state_at, var_at, guarded, word_count}
 use Rattle.lw_core.specs.WaitLists.{home_list}
 use Rattle.lw_core.specs.Machine.{LwState, mode_in, hold_in}
 use Rattle.lw_core.specs.WordsAreMade.{all_steps, WordsAreMade}
+use Rattle.lw_core.specs.ListsAreMade.{ListsAreMade}
 use Rattle.lw_core.specs.Stances.{stance_of}
 use Rattle.lw_core.specs.CountsHolders.{CountsHolders}
 use Rattle.lw_core.specs.GuardedIsLawful.{GuardedIsLawful}
@@ -82,10 +83,14 @@ EachVariableIsAnnounced z s = (l : ℕ) → l < z.locks → VariableIsAnnounced 
 abbrev pub EachWordIsMade : Size → LwState → Type 0
 EachWordIsMade z s = WordsAreMade z s.words (map all_steps s.views)
 
+abbrev pub EachListIsMade : Size → LwState → Type 0
+EachListIsMade z s = ListsAreMade z s.homes (map all_steps s.views)
+
 pub record Rule (lawful : ℕ → List ℕ → Type 0) (z : Size) (s : LwState) : Type 0 where
   pub sized : Sized z (length s.words) (length s.homes)
   pub roster : NumbersStand z s
   pub made : EachWordIsMade z s
+  pub lists_made : EachListIsMade z s
   pub places : PlacesFit s
   pub frames : FramesStand lawful z s
   pub counts : EachCountsHolders z s

@@ -2,7 +2,7 @@
 ghost use Rattle.std.specs.Prelude.{◌<◌, ◌≤◌, List};
 ghost use Rattle.lw_core.specs.Machine.{LwState};
 ghost use Rattle.lw_core.specs.FramesStand.{FramesStand};
-ghost use Rattle.lw_core.specs.Rule.{Rule, NumbersStand, EachWordIsMade, PlacesFit, EachCountsHolders, EachGuardedIsLawful, EachListInOneHand, EachHandInside, EachListedOnce, EachWaitingTells, EachFlagCovers, EachReleaseOkIsOwed, EachWakeIsConserved, EachMarkerPosts, EachFreeLockIsAnswered, EachVariableIsAnnounced};
+ghost use Rattle.lw_core.specs.Rule.{Rule, NumbersStand, EachWordIsMade, EachListIsMade, PlacesFit, EachCountsHolders, EachGuardedIsLawful, EachListInOneHand, EachHandInside, EachListedOnce, EachWaitingTells, EachFlagCovers, EachReleaseOkIsOwed, EachWakeIsConserved, EachMarkerPosts, EachFreeLockIsAnswered, EachVariableIsAnnounced};
 ghost use Rattle.lw_core.specs.Runs.{Event, Run};
 ghost use Rattle.lw_core.specs.NoLostWake.{NoWakeIsLost, NoFreeLockIsSleptFor, NoStaleSleep};
 ghost use Rattle.lw_core.specs.Promises.{KeptByEach, IsOpening, HoldsInRuns, EachCallGoesOn, HoldersAgree, UnheldAreLawful, LastHoldsAlone, WordsStand};
@@ -22,6 +22,15 @@ pub fn words_are_made<G: Guarded>(size: Size)
     requires procs { (0 < size.procs) × (size.procs ≤ 64) }
     ensures step { KeptByEach G.lawful size (EachWordIsMade size) }
     ensures runs { HoldsInRuns G.lawful size (EachWordIsMade size) }
+{}
+
+/// Each list at home is what the steps of the seats made of it: so the list that a step takes in hand
+/// is the one that was sent home there last, with the same waiters in the same order.
+pub fn lists_are_made<G: Guarded>(size: Size)
+    requires locks { size.locks ≤ 200 }
+    requires procs { (0 < size.procs) × (size.procs ≤ 64) }
+    ensures step { KeptByEach G.lawful size (EachListIsMade size) }
+    ensures runs { HoldsInRuns G.lawful size (EachListIsMade size) }
 {}
 
 /// Each seat's place says rightly what the seat holds and what is to follow.

@@ -99,10 +99,11 @@ pub enum Frame {
     Releasing(LockNo),
 }
 
-/// A step that was made, and the word that it found.
+/// A step that was made, the word that it found, and the list that it took in hand or sent home.
 pub struct Made {
     pub step: LwStep,
     pub found: u64,
+    pub list: LinkedList<Waiter>,
 }
 
 /// What a seat has of one lock: the mode in which it holds it, and since the grant the guarded

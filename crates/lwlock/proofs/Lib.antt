@@ -1,5 +1,6 @@
 pub mod Flags
 pub mod Waiting
 pub mod Later
+pub mod Taking
 pub mod Telling
 pub mod Sleeps

@@ -10,8 +10,8 @@ use Rattle.lw_core.specs.declared.view.Made.{Made}
 use Rattle.lw_core.specs.declared.view.View.{View}
 use Rattle.lw_core.specs.declared.view.Waiter.{Waiter}
 use Rattle.lw_core.specs.WaitLists.{taken_from, kept_from}
-use Rattle.lw_core.specs.Words.{grant_of, locked, release_ok, has_waiters, set_flag, clear_flag}
-use Rattle.lw_core.specs.Machine.{Place, calls_for_wake, made, mode_in, woken_word}
+use Rattle.lw_core.specs.Words.{grant_of, locked, release_ok, has_waiters, has_flag, set_flag, clear_flag}
+use Rattle.lw_core.specs.Machine.{Place, calls_for_wake, made, made_with, mode_in, woken_word}
 use Rattle.lw_core.specs.Stances.{hand_at, hand_list}
 
 -- the list in hand as it was found, as the place knows it
@@ -83,14 +83,28 @@ AllTake made = count_by (λ m. not (takes_in_hand m.step)) made ≡ 0
 abbrev pub AllSeek : List Made → Type 0
 AllSeek made = count_by (λ m. not (seeks_word m.step)) made ≡ 0
 
--- the steps made since the first view exchanged the state word, as the last one found it, for the one after a wake of this list
+-- the last of these steps found LOCKED clear, and took this list of the lock in hand
+pub record TakesLast (l : ℕ) (found : List Waiter) (steps : List Made) : Type 0 where
+  pub word : ℕ
+  pub clear : has_flag locked word ≡ 0
+  pub begins : Option Call
+  pub before : List Made
+  pub split : steps ≡ before ++ made_with (Lock l begins) word found ∷ []
+
+-- the last step made since the first view took it
+pub record TookList (l : ℕ) (found : List Waiter) (v w : View) : Type 0 where
+  pub more : List Made
+  pub steps : w.steps ≡ v.steps ++ more
+  pub last : TakesLast l found more
+
+-- the steps made since the first view exchanged the state word, as the last one found it, for the one after a wake of this list, and sent home whom the wake leaves on it
 pub record Exchanged (l : ℕ) (found : List Waiter) (v w : View) : Type 0 where
   pub word : ℕ
   pub seeking : List Made
-  pub steps : w.steps ≡ v.steps ++ (seeking ++ made (Wake l word (woken_word (taken_from found) (kept_from found) word)) word ∷ [])
+  pub steps : w.steps ≡ v.steps ++ (seeking ++ made_with (Wake l word (woken_word (taken_from found) (kept_from found) word)) word (kept_from found) ∷ [])
   pub only_sought : AllSeek seeking
 
--- The steps of a wake: the list is taken in hand, each whom the wake takes off it is marked, the state word is exchanged, and then each of them is told
+-- The steps of a wake: the list is taken in hand, each whom the wake takes off it is marked, the state word is exchanged, by which the others go home in their order, and then each of them is told
 pub record WakeSteps (l : ℕ) (steps : List Made) : Type 0 where
   pub found : List Waiter
   pub word : ℕ
@@ -98,7 +112,8 @@ pub record WakeSteps (l : ℕ) (steps : List Made) : Type 0 where
   pub marks : List Made
   pub seeking : List Made
   pub since : List Made
-  pub split : steps ≡ taking ++ (marks ++ (seeking ++ (made (Wake l word (woken_word (taken_from found) (kept_from found) word)) word ∷ since)))
+  pub split : steps ≡ taking ++ (marks ++ (seeking ++ (made_with (Wake l word (woken_word (taken_from found) (kept_from found) word)) word (kept_from found) ∷ since)))
+  pub taken : TakesLast l found taking
   pub only_took : AllTake taking
   pub marked : kinds marks ≡ marked_by (taken_from found)
   pub only_sought : AllSeek seeking

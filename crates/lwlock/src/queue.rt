@@ -8,7 +8,7 @@ ghost use Rattle.lw_core.specs.Told.{TellsList};
 ghost use Rattle.lw_core.specs.WaitLists.{joined_by, without};
 ghost use Rattle.lw_core.specs.Words.{has_flag, locked};
 ghost use Rattle.lwlock.specs.Calls.{Announced, Went, WentWith};
-ghost use Rattle.lwlock.specs.Wakes.{OnlyTook};
+ghost use Rattle.lwlock.specs.Wakes.{OnlyTook, TookList};
 
 use crate::sleep::sleep;
 use arrayvec::ArrayVec;
@@ -43,6 +43,7 @@ pub fn take_list<G: Guarded, R: Wait>(
     ensures few { table.now.procs ≤ 64 }
     ensures surplus { seat.old.view.place ≡ [] → seat.old.view.surplus ≡ 0 }
     ensures program { MakesFrom begins seat.old.view seat.new.view }
+    ensures found { TookList lock seat.new.list seat.old.view seat.new.view }
     ensures took { OnlyTook seat.old.view seat.new.view }
 {
     if list_is_home(table.step(seat, LwStep::Lock(lock, begins)).old) {
@@ -62,6 +63,7 @@ fn wait_for_list<G: Guarded, R: Wait>(rt: &R, table: &LwTable<G>, seat: &mut LwS
     ensures list { TellsList (size_of table.now) seat.old.view seat.new.list }
     ensures few { table.now.procs ≤ 64 }
     ensures program { BeginsNone seat.old.view seat.new.view }
+    ensures found { TookList lock seat.new.list seat.old.view seat.new.view }
     ensures took { OnlyTook seat.old.view seat.new.view }
 {
     let backoff = Backoff::new();

@@ -9,7 +9,7 @@ use Rattle.lw_core.specs.declared.view.Made.{Made}
 use Rattle.lw_core.specs.declared.view.View.{View}
 use Rattle.lw_core.specs.declared.view.Waiter.{Waiter}
 use Rattle.lw_core.specs.declared.view.Want.TheVariants.{UntilFree}
-use Rattle.lw_core.specs.Machine.{compared, in_hand, made, next, on_conflict, on_outcome, outer, peeked, sent_home}
+use Rattle.lw_core.specs.Machine.{compared, in_hand, left_at, made, made_with, next, number_of, on_conflict, on_outcome, outer, peeked, sent_home}
 use Rattle.lw_core.specs.WaitLists.{AllBelow, same_want, until_free_from}
 use Rattle.lw_core.specs.Words.{is_free}
 use Rattle.lwlock.specs.Calls.{FoundInCall, went}
@@ -36,11 +36,11 @@ to_return l old n m b x y found more v a u d may held looked taken read =
 -- the look, the list in hand, the variable read and the list at home again
 pub compares : (l old n m o : ℕ) (b : Option Call) (x y z found : List Waiter) (more : List Made) (v a u d w : View) → BeginsComparing l old b v → is_free Shared n ≡ false → a ≡ next (Peek l b) v n x → u ≡ went a (in_hand found (outer a.place)) more
     → d ≡ next (VarLoad l) u m y → w ≡ next (Unlock l false) d o z
-    → w ≡ went v (cond (eqb m old) (on_conflict (behind b v.place)) (on_outcome true v.surplus (behind b v.place))) (made (Peek l b) n ∷ (more ++ (made (VarLoad l) m ∷ made (Unlock l false) o ∷ [])))
+    → w ≡ went v (cond (eqb m old) (on_conflict (behind b v.place)) (on_outcome true v.surplus (behind b v.place))) (made (Peek l b) n ∷ (more ++ (made (VarLoad l) m ∷ made_with (Unlock l false) o found ∷ [])))
 compares l old n m o b x y z found more v a u d w may held looked taken read home =
     let last : View → View = λ (s : View). next (Unlock l false) s o z in let both : View → View = λ (s : View). last (next (VarLoad l) s m y) in let all : View → View = λ (s : View). both (went s (in_hand found (outer s.place)) more) in
     home ∙ (ap last read ∙ (ap both taken ∙ (ap all looked
-    ∙ (λ i. record v { place = sent_home v.surplus (compared m (in_hand found (outer (to_read l old n b v may held i)))); steps = in_order v.steps more (made (Peek l b) n) (made (VarLoad l) m) (made (Unlock l false) o) i }))))
+    ∙ (λ i. record v { place = sent_home v.surplus (compared m (in_hand found (outer (to_read l old n b v may held i)))); steps = in_order v.steps more (made (Peek l b) n) (made (VarLoad l) m) (made_with (Unlock l false) o (left_at (compared m (in_hand found (outer (to_read l old n b v may held i)))) (number_of v.own))) i }))))
 
 -- what was found in a part of a call was found in the call
 pub ends_before : (l old : ℕ) (a : VarWait) (v u w : View) → WaitEnds l old a u w → (more : List Made) → u.steps ≡ v.steps ++ more → WaitEnds l old a v w

@@ -27,11 +27,11 @@ returns-in-Err-clause-seen g c = let refused = returns-in-Err-clause-view g c in
 pub returns-in-Ok-clause-program : goal.returns-in-Ok-clause-program
 returns-in-Ok-clause-program g c =
     let l = c.args.lock in let m = c.args.mode in let v : View = c.args.seat.now.view in let begun : View = c.step-word.new.seat.view in let granted = c.in-Ok.ensures.view in
-    let first = makes_first (Try l m) (Load l (Some (Try l m))) c.step-word.result.old v begun (ap (λ (a : View). a.steps) c.step-word.ensures.view) refl in
+    let first = makes_first (Try l m) (made (Load l (Some (Try l m))) c.step-word.result.old) v begun (ap (λ (a : View). a.steps) c.step-word.ensures.view) refl in
     makes_on (Try l m) v begun c.attempt.new.seat.view first granted.0 (ap (λ (a : View). a.steps) granted.1) c.attempt.ensures.program
 
 pub returns-in-Err-clause-program : goal.returns-in-Err-clause-program
 returns-in-Err-clause-program g c =
     let l = c.args.lock in let m = c.args.mode in let v : View = c.args.seat.now.view in let begun : View = c.step-word.new.seat.view in let refused = c.in-Err.ensures.view in
-    let first = makes_first (Try l m) (Load l (Some (Try l m))) c.step-word.result.old v begun (ap (λ (a : View). a.steps) c.step-word.ensures.view) refl in
+    let first = makes_first (Try l m) (made (Load l (Some (Try l m))) c.step-word.result.old) v begun (ap (λ (a : View). a.steps) c.step-word.ensures.view) refl in
     makes_on (Try l m) v begun c.attempt.new.seat.view first (refused.1.0 ++ made (Refuse l m c.in-Err.seen) c.in-Err.seen ∷ []) (ap (λ (a : View). a.steps) refused.1.1) c.attempt.ensures.program

@@ -22,14 +22,14 @@ pub returns-then-is_ok-clause-program : goal.returns-then-is_ok-clause-program
 returns-then-is_ok-clause-program g c =
     let l : ℕ = c.args.lock in let m = c.args.mode in let v : View = c.args.seat.now.view in let begun : View = c.step-word.new.seat.view in let u : View = c.attempt.new.seat.view in
     let granted = was_granted l m (on_grant begun.surplus (outer begun.place)) (on_refusal (outer begun.place)) begun u c.attempt.result (sym c.is_ok.ensures.value ∙ c.if-is_ok.true) c.attempt.ensures.view in
-    let first = makes_first (AcquireOrWait l m) (Load l (Some (AcquireOrWait l m))) c.step-word.result.old v begun (ap (λ (a : View). a.steps) c.step-word.ensures.view) refl in
+    let first = makes_first (AcquireOrWait l m) (made (Load l (Some (AcquireOrWait l m))) c.step-word.result.old) v begun (ap (λ (a : View). a.steps) c.step-word.ensures.view) refl in
     makes_on (AcquireOrWait l m) v begun u first granted.0 (ap (λ (a : View). a.steps) granted.1) c.attempt.ensures.program
 
 pub returns-in-Granted-clause-program : goal.returns-in-Granted-clause-program
 returns-in-Granted-clause-program g c =
     let l : ℕ = c.args.lock in let m = c.args.mode in let v : View = c.args.seat.now.view in let begun : View = c.step-word.new.seat.view in let u : View = c.attempt.new.seat.view in let w : View = c.run_round.new.seat.view in
     let refused = was_refused l m (on_grant begun.surplus (outer begun.place)) (on_refusal (outer begun.place)) begun u c.attempt.result (sym c.is_ok.ensures.value ∙ c.if-is_ok.false) c.attempt.ensures.view in
-    let first = makes_first (AcquireOrWait l m) (Load l (Some (AcquireOrWait l m))) c.step-word.result.old v begun (ap (λ (a : View). a.steps) c.step-word.ensures.view) refl in
+    let first = makes_first (AcquireOrWait l m) (made (Load l (Some (AcquireOrWait l m))) c.step-word.result.old) v begun (ap (λ (a : View). a.steps) c.step-word.ensures.view) refl in
     let tried = makes_on (AcquireOrWait l m) v begun u first refused.0 (ap (λ (a : View). a.steps) refused.1) c.attempt.ensures.program in
     let ended = c.in-Granted.ensures.view.0 in let given = c.give_back.ensures.view in
     makes_on (AcquireOrWait l m) v w c.give_back.new.seat.view (makes_on (AcquireOrWait l m) v u w tried ended.0 (ap (λ (a : View). a.steps) ended.1) c.run_round.ensures.program) given.0 (ap (λ (a : View). a.steps) given.1) c.give_back.ensures.program
@@ -38,7 +38,7 @@ pub returns-in-Woken-clause-program : goal.returns-in-Woken-clause-program
 returns-in-Woken-clause-program g c =
     let l : ℕ = c.args.lock in let m = c.args.mode in let v : View = c.args.seat.now.view in let begun : View = c.step-word.new.seat.view in let u : View = c.attempt.new.seat.view in let w : View = c.run_round.new.seat.view in
     let refused = was_refused l m (on_grant begun.surplus (outer begun.place)) (on_refusal (outer begun.place)) begun u c.attempt.result (sym c.is_ok.ensures.value ∙ c.if-is_ok.false) c.attempt.ensures.view in
-    let first = makes_first (AcquireOrWait l m) (Load l (Some (AcquireOrWait l m))) c.step-word.result.old v begun (ap (λ (a : View). a.steps) c.step-word.ensures.view) refl in
+    let first = makes_first (AcquireOrWait l m) (made (Load l (Some (AcquireOrWait l m))) c.step-word.result.old) v begun (ap (λ (a : View). a.steps) c.step-word.ensures.view) refl in
     let tried = makes_on (AcquireOrWait l m) v begun u first refused.0 (ap (λ (a : View). a.steps) refused.1) c.attempt.ensures.program in
     let ended = c.in-Woken.ensures.view.0 in let given = c.give_back-in-Woken.ensures.view in
     makes_on (AcquireOrWait l m) v w c.give_back-in-Woken.new.seat.view (makes_on (AcquireOrWait l m) v u w tried ended.0 (ap (λ (a : View). a.steps) ended.1) c.run_round.ensures.program) given.0 (ap (λ (a : View). a.steps) given.1) c.give_back-in-Woken.ensures.program

@@ -63,7 +63,7 @@ loop-preserved g c =
       refused = λ _.
           refused_since l m v b w (refused_before l m v a b (freed_refused (number_of a.own) l m c.in-Woken.seen a b freed.1 freed.2) queues.0 (ap (λ (x : View). x.steps) queues.1)) (made (SetReleaseOk l) c.step-word.result.old ∷ made (Load l None) n ∷ [])
           (ap (λ (x : View). x.steps) c.step-word-in-loop.ensures.view ∙ (ap (λ (x : View). x.steps ++ made (Load l None) n ∷ []) c.step-word.ensures.view ∙ append_assoc b.steps (made (SetReleaseOk l) c.step-word.result.old ∷ []) (made (Load l None) n ∷ [])));
-      program = count_kept begins_call c.step-word.new.seat.view w (Load l None) n (ap (λ (x : View). x.steps) c.step-word-in-loop.ensures.view) refl
-          ∙ (count_kept begins_call b c.step-word.new.seat.view (SetReleaseOk l) c.step-word.result.old (ap (λ (x : View). x.steps) c.step-word.ensures.view) refl ∙ (c.run_round.ensures.program ∙ (c.attempt.ensures.program ∙ c.loop.invariant.program)));
+      program = count_kept begins_call c.step-word.new.seat.view w (made (Load l None) n) (ap (λ (x : View). x.steps) c.step-word-in-loop.ensures.view) refl
+          ∙ (count_kept begins_call b c.step-word.new.seat.view (made (SetReleaseOk l) c.step-word.result.old) (ap (λ (x : View). x.steps) c.step-word.ensures.view) refl ∙ (c.run_round.ensures.program ∙ (c.attempt.ensures.program ∙ c.loop.invariant.program)));
       view = (stands.0 + 1, ((λ _. omega arith, λ _. refl), tries_again l m c.step-word.result.old n stands.0 (c.loop.surplus + c.in-Woken.more) c.step-word.new.seat.list c.step-word-in-loop.new.seat.list v b c.step-word.new.seat.view w slept c.step-word.ensures.view c.step-word-in-loop.ensures.view));
     }

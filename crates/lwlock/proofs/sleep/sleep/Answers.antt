@@ -23,6 +23,6 @@ loop-preserved g c =
     let kept = turned ∙ (λ i. record v { place = cond (ne_eqb c.step.result.old 0 c.if-step-eq0.false i) (resumed s (outer (outer v.place))) v.place; steps = v.steps ++ more; surplus = cond (ne_eqb c.step.result.old 0 c.if-step-eq0.false i) s (s + 1) }) in record {
       table = search rules;
       view = (more, kept ∙ (λ i. record v { steps = v.steps ++ more; surplus = add_assoc v.surplus c.loop.surplus 1 i }));
-      stores = count_kept is_store d w WaitLoad c.step.result.old (ap (λ (x : View). x.steps) c.step.ensures.view) refl ∙ (c.down_in_sleep.ensures.stores ∙ c.loop.invariant.stores);
-      program = count_kept begins_call d w WaitLoad c.step.result.old (ap (λ (x : View). x.steps) c.step.ensures.view) refl ∙ (c.down_in_sleep.ensures.program ∙ c.loop.invariant.program);
+      stores = count_kept is_store d w (made WaitLoad c.step.result.old) (ap (λ (x : View). x.steps) c.step.ensures.view) refl ∙ (c.down_in_sleep.ensures.stores ∙ c.loop.invariant.stores);
+      program = count_kept begins_call d w (made WaitLoad c.step.result.old) (ap (λ (x : View). x.steps) c.step.ensures.view) refl ∙ (c.down_in_sleep.ensures.program ∙ c.loop.invariant.program);
     }

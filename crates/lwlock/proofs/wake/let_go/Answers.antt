@@ -24,4 +24,4 @@ returns-then-wakes_after-clause-woken g c =
 pub returns-then-wakes_after-clause-program : goal.returns-then-wakes_after-clause-program
 returns-then-wakes_after-clause-program g c =
     let v = c.args.seat.now.view in let u = c.step-word.new.seat.view in let went = c.wake.ensures.view in
-    part_on c.args.begins v u c.wake.new.seat.view (part_first c.args.begins (Sub c.args.lock c.args.mode c.args.begins) c.step-word.result.old v u (ap (λ (x : View). x.steps) c.step-word.ensures.view) refl refl) went.0 (ap (λ (x : View). x.steps) went.1) c.wake.ensures.program
+    part_on c.args.begins v u c.wake.new.seat.view (part_first c.args.begins (made (Sub c.args.lock c.args.mode c.args.begins) c.step-word.result.old) v u (ap (λ (x : View). x.steps) c.step-word.ensures.view) refl refl) went.0 (ap (λ (x : View). x.steps) went.1) c.wake.ensures.program

@@ -5,7 +5,7 @@ use Rattle.lw_core.specs.declared.view.View.{View}
 use Rattle.lw_core.specs.declared.view.Waiter.{Waiter}
 use Rattle.lw_core.specs.declared.view.Want.TheVariants.{Shared}
 use Rattle.lw_core.specs.WaitLists.{waiter}
-use Rattle.lw_core.specs.Machine.{next}
+use Rattle.lw_core.specs.Machine.{made, next}
 use Rattle.lw_core.specs.Programs.{begins_call}
 use Rattle.lw_core.proofs.Programs.{count_kept}
 use Rattle.lwlock.specs.Wakes.{found_at, marked_by, updated_at, is_calling}
@@ -23,5 +23,5 @@ loop-waiter-preserved g c =
       table = search rules;
       list = c.step.ensures.list.0 refl refl ∙ c.loop-waiter.invariant.list;
       view = subst (λ (ws : List Waiter). MarkedUpTo b l updated found ws us (marked_by items) v w) (sym (take_more items i (waiter 0 Shared) c.loop-waiter-test.true)) (marked_one b l n updated found (take i items) us c.step.new.seat.list u (marked_by items) v a w done stored);
-      program = count_kept begins_call a w (WaitStore c.proc_of.result 2) n is refl ∙ c.loop-waiter.invariant.program;
+      program = count_kept begins_call a w (made (WaitStore c.proc_of.result 2) n) is refl ∙ c.loop-waiter.invariant.program;
     }

@@ -4,7 +4,7 @@ use Rattle.lw_core.specs.declared.view.View.{View}
 use Rattle.lw_core.specs.declared.view.Waiter.{Waiter}
 use Rattle.lw_core.specs.declared.view.Want.TheVariants.{Shared}
 use Rattle.lw_core.specs.WaitLists.{waiter}
-use Rattle.lw_core.specs.Machine.{next}
+use Rattle.lw_core.specs.Machine.{made, next}
 use Rattle.lw_core.specs.Programs.{begins_call}
 use Rattle.lw_core.proofs.Programs.{count_kept}
 use Rattle.lwlock.specs.Wakes.{told_by}
@@ -20,6 +20,6 @@ loop-waiter-preserved g c =
     let cleared = c.step.ensures.view ∙ ap (λ (q : ℕ). next (WaitStore q 0) a c.step.result.old c.step.new.seat.list) p in
     let posted = c.post.ensures.view.1 ∙ ap (λ (q : ℕ). next (Post q None) b c.post.ensures.view.0 []) p in record {
       table = search rules;
-      program = c.post.ensures.program ∙ (count_kept begins_call a b (WaitStore c.proc_of-proc.result 0) c.step.result.old (ap (λ (x : View). x.steps) c.step.ensures.view) refl ∙ c.loop-waiter.invariant.program);
+      program = c.post.ensures.program ∙ (count_kept begins_call a b (made (WaitStore c.proc_of-proc.result 0) c.step.result.old) (ap (λ (x : View). x.steps) c.step.ensures.view) refl ∙ c.loop-waiter.invariant.program);
       view = told_one c.step.result.old c.post.ensures.view.0 u us c.step.new.seat.list [] (told_by items) v a b w told cleared posted;
     }
