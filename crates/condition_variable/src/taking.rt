@@ -37,11 +37,12 @@ pub fn take_spot<P: Party, R: Wait>(
     ensures few { table.now.procs ≤ 64 }
 {
     let _procs = table.procs();
-    let take = WaitStep::Take(spot, begins);
+    let here = &spot;
+    let take = WaitStep::Take(*here, begins);
     if table.step(seat, take).old == 0 {
         return;
     }
-    wait_for_spot(rt, table, seat, spot);
+    wait_for_spot(rt, table, seat, here);
 }
 
 // The same, once it was found in another's hand.
@@ -49,20 +50,20 @@ fn wait_for_spot<P: Party, R: Wait>(
     rt: &R,
     table: &WaitTable<P>,
     seat: &mut WaitSeat<P>,
-    spot: Spot,
+    spot: &Spot,
 )
     requires table { seat.old.table_id ≡ table.now.table_id }
-    requires spot { IsSpot (size_of table.now) spot }
-    requires place { MaySpin spot (top seat.old.view.place) }
+    requires spot { IsSpot (size_of table.now) spot.now }
+    requires place { MaySpin spot.now (top seat.old.view.place) }
     ensures table { (seat.new.table_id ≡ seat.old.table_id) × (seat.new.id ≡ seat.old.id) }
-    ensures view { (spins : List Made) × (seat.new.view ≡ went seat.old.view (taken true (as_kept seat.new.list seat.new.record) (spun true seat.old.view.place)) (spins ++ made_with (kind.Take spot None) 0 seat.new.list ∷ [])) × OnlySpins spot spins }
-    ensures list { TellsList (size_of table.now) (number_of seat.old.view.own) (belongs_at seat.old.view.target (spun true seat.old.view.place)) (slot_of spot) seat.new.list }
-    ensures barrier { TellsRecord (P.means table.now.party) (size_of table.now) table.now.phase (P.word_count table.now.party) spot seat.old.id (party_of seat.old.view) seat.new.record }
+    ensures view { (spins : List Made) × (seat.new.view ≡ went seat.old.view (taken true (as_kept seat.new.list seat.new.record) (spun true seat.old.view.place)) (spins ++ made_with (kind.Take spot.now None) 0 seat.new.list ∷ [])) × OnlySpins spot.now spins }
+    ensures list { TellsList (size_of table.now) (number_of seat.old.view.own) (belongs_at seat.old.view.target (spun true seat.old.view.place)) (slot_of spot.now) seat.new.list }
+    ensures barrier { TellsRecord (P.means table.now.party) (size_of table.now) table.now.phase (P.word_count table.now.party) spot.now seat.old.id (party_of seat.old.view) seat.new.record }
 {
     let backoff = Backoff::new();
     for _ in rt.forever() {
         spin(rt, table, seat, spot, &backoff);
-        let take = WaitStep::Take(spot, None);
+        let take = WaitStep::Take(*spot, None);
         if table.step(seat, take).old == 0 {
             return;
         }
@@ -75,18 +76,18 @@ fn spin<P: Party, R: Wait>(
     rt: &R,
     table: &WaitTable<P>,
     seat: &mut WaitSeat<P>,
-    spot: Spot,
+    spot: &Spot,
     backoff: &Backoff,
 )
     requires table { seat.old.table_id ≡ table.now.table_id }
-    requires spot { IsSpot (size_of table.now) spot }
-    requires place { MaySpin spot (top seat.old.view.place) }
+    requires spot { IsSpot (size_of table.now) spot.now }
+    requires place { MaySpin spot.now (top seat.old.view.place) }
     ensures table { (seat.new.table_id ≡ seat.old.table_id) × (seat.new.id ≡ seat.old.id) }
-    ensures view { (spins : List Made) × (seat.new.view ≡ went seat.old.view (spun true seat.old.view.place) spins) × OnlySpins spot spins }
+    ensures view { (spins : List Made) × (seat.new.view ≡ went seat.old.view (spun true seat.old.view.place) spins) × OnlySpins spot.now spins }
 {
     for _ in rt.forever() {
         backoff.snooze();
-        if table.step(seat, WaitStep::Spin(spot)).old == 0 {
+        if table.step(seat, WaitStep::Spin(*spot)).old == 0 {
             return;
         }
     }

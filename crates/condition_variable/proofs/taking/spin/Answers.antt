@@ -12,18 +12,18 @@ pub loop-init : goal.loop-init
 loop-init g c = (refl, refl, ([], went_none c.args.seat.now.view, tt))
 
 pub step-requires-clause-place : goal.step-requires-clause-place
-step-requires-clause-place g c = λ _ _. subst (λ (y : WaitView _). Permits (size_of c.args.table.now) (Spin c.args.spot) y.own y.target y.place) (sym c.loop.invariant.2.1) (c.requires.spot, c.requires.place)
+step-requires-clause-place g c = λ _ _. subst (λ (y : WaitView _). Permits (size_of c.args.table.now) (Spin c.args.spot.now) y.own y.target y.place) (sym c.loop.invariant.2.1) (c.requires.spot, c.requires.place)
 
 pub returns-then-step-eq0-clause-view : goal.returns-then-step-eq0-clause-view
 returns-then-step-eq0-clause-view g c =
     let v = c.args.seat.now.view in
     let inv = c.loop.invariant.2 in
-    (inv.0 ++ made (Spin c.args.spot) 0 ∷ [], spins_on (size_of c.args.table.now) v _ _ v.place inv.0 c.args.spot _ 0 (as_kept c.step.new.seat.list c.step.new.seat.record) inv.1 c.step.ensures.view c.if-step-eq0.true, spins_append c.args.spot inv.0 _ inv.2 (refl, tt))
+    (inv.0 ++ made (Spin c.args.spot.now) 0 ∷ [], spins_on (size_of c.args.table.now) v _ _ v.place inv.0 c.args.spot.now _ 0 (as_kept c.step.new.seat.list c.step.new.seat.record) inv.1 c.step.ensures.view c.if-step-eq0.true, spins_append c.args.spot.now inv.0 _ inv.2 (refl, tt))
 
 pub loop-preserved : goal.loop-preserved
 loop-preserved g c =
     let v = c.args.seat.now.view in
     let inv = c.loop.invariant.2 in
-    let more : List Made = inv.0 ++ made (Spin c.args.spot) 1 ∷ [] in
-    let on = spins_on (size_of c.args.table.now) v _ _ v.place inv.0 c.args.spot _ 1 (as_kept c.step.new.seat.list c.step.new.seat.record) inv.1 c.step.ensures.view (swapped_set c.step.result.old c.step.ensures.told c.if-step-eq0.false) in
-    ((cc), (cc), (more, on ∙ ap (λ p. went v p more) (spun_still c.args.spot v.place c.requires.place), spins_append c.args.spot inv.0 _ inv.2 (refl, tt)))
+    let more : List Made = inv.0 ++ made (Spin c.args.spot.now) 1 ∷ [] in
+    let on = spins_on (size_of c.args.table.now) v _ _ v.place inv.0 c.args.spot.now _ 1 (as_kept c.step.new.seat.list c.step.new.seat.record) inv.1 c.step.ensures.view (swapped_set c.step.result.old c.step.ensures.told c.if-step-eq0.false) in
+    ((cc), (cc), (more, on ∙ ap (λ p. went v p more) (spun_still c.args.spot.now v.place c.requires.place), spins_append c.args.spot.now inv.0 _ inv.2 (refl, tt)))

@@ -18,7 +18,7 @@ pub loop-init : goal.loop-init
 loop-init g c = (refl, refl, ([], went_none c.args.seat.now.view, tt))
 
 pub spin-requires-clause-place : goal.spin-requires-clause-place
-spin-requires-clause-place g c = λ _ _. subst (λ (y : WaitView _). MaySpin c.args.spot (top y.place)) (sym c.loop.invariant.2.1) c.requires.place
+spin-requires-clause-place g c = λ _ _. subst (λ (y : WaitView _). MaySpin c.args.spot.now (top y.place)) (sym c.loop.invariant.2.1) c.requires.place
 
 pub step-requires-clause-place : goal.step-requires-clause-place
 step-requires-clause-place g c =
@@ -26,7 +26,7 @@ step-requires-clause-place g c =
     let inv = c.loop.invariant.2 in
     let spins = c.spin.ensures.view in
     let at = went_through v _ _ _ (spun true v.place) inv.0 spins.0 inv.1 (spins.1 ∙ ap (λ (y : WaitView _). went c.loop.seat.view (spun true y.place) spins.0) inv.1) in
-    λ _ _. subst (λ (y : WaitView _). Permits (size_of c.args.table.now) (Take c.args.spot None) y.own y.target y.place) (sym at) (c.requires.spot, may_take_again c.args.spot v.place c.requires.place)
+    λ _ _. subst (λ (y : WaitView _). Permits (size_of c.args.table.now) (Take c.args.spot.now None) y.own y.target y.place) (sym at) (c.requires.spot, may_take_again c.args.spot.now v.place c.requires.place)
 
 pub returns-then-step-eq0-clause-view : goal.returns-then-step-eq0-clause-view
 returns-then-step-eq0-clause-view g c =
@@ -34,7 +34,7 @@ returns-then-step-eq0-clause-view g c =
     let inv = c.loop.invariant.2 in
     let spins = c.spin.ensures.view in
     let at = went_through v _ _ _ (spun true v.place) inv.0 spins.0 inv.1 (spins.1 ∙ ap (λ (y : WaitView _). went c.loop.seat.view (spun true y.place) spins.0) inv.1) in
-    (inv.0 ++ spins.0, swaps_on (size_of c.args.table.now) v _ _ (spun true v.place) (inv.0 ++ spins.0) c.args.spot _ 0 _ at c.step.ensures.view c.if-step-eq0.true, spins_append c.args.spot inv.0 spins.0 inv.2 spins.2)
+    (inv.0 ++ spins.0, swaps_on (size_of c.args.table.now) v _ _ (spun true v.place) (inv.0 ++ spins.0) c.args.spot.now _ 0 _ at c.step.ensures.view c.if-step-eq0.true, spins_append c.args.spot.now inv.0 spins.0 inv.2 spins.2)
 
 pub returns-then-step-eq0-clause-list : goal.returns-then-step-eq0-clause-list
 returns-then-step-eq0-clause-list g c =
@@ -42,7 +42,7 @@ returns-then-step-eq0-clause-list g c =
     let inv = c.loop.invariant.2 in
     let spins = c.spin.ensures.view in
     let at = went_through v _ _ _ (spun true v.place) inv.0 spins.0 inv.1 (spins.1 ∙ ap (λ (y : WaitView _). went c.loop.seat.view (spun true y.place) spins.0) inv.1) in
-    subst (λ (y : WaitView _). TellsList (size_of c.args.table.now) (number_of y.own) (belongs_at y.target y.place) (slot_of c.args.spot) c.step.new.seat.list) at (c.step.ensures.list c.if-step-eq0.true)
+    subst (λ (y : WaitView _). TellsList (size_of c.args.table.now) (number_of y.own) (belongs_at y.target y.place) (slot_of c.args.spot.now) c.step.new.seat.list) at (c.step.ensures.list c.if-step-eq0.true)
 
 pub loop-preserved : goal.loop-preserved
 loop-preserved g c =
@@ -50,9 +50,9 @@ loop-preserved g c =
     let inv = c.loop.invariant.2 in
     let spins = c.spin.ensures.view in
     let at = went_through v _ _ _ (spun true v.place) inv.0 spins.0 inv.1 (spins.1 ∙ ap (λ (y : WaitView _). went c.loop.seat.view (spun true y.place) spins.0) inv.1) in
-    let more : List Made = (inv.0 ++ spins.0) ++ made (Take c.args.spot None) 1 ∷ [] in
-    let on = swaps_on (size_of c.args.table.now) v _ _ (spun true v.place) (inv.0 ++ spins.0) c.args.spot _ 1 _ at c.step.ensures.view (swapped_set c.step.result.old c.step.ensures.told c.if-step-eq0.false) in
-    ((cc), (cc), (more, on ∙ ap (λ p. went v p more) (taken_still c.args.spot (as_kept c.step.new.seat.list c.step.new.seat.record) v.place c.requires.place), spins_append c.args.spot (inv.0 ++ spins.0) _ (spins_append c.args.spot inv.0 spins.0 inv.2 spins.2) ((refl, refl), tt)))
+    let more : List Made = (inv.0 ++ spins.0) ++ made (Take c.args.spot.now None) 1 ∷ [] in
+    let on = swaps_on (size_of c.args.table.now) v _ _ (spun true v.place) (inv.0 ++ spins.0) c.args.spot.now _ 1 _ at c.step.ensures.view (swapped_set c.step.result.old c.step.ensures.told c.if-step-eq0.false) in
+    ((cc), (cc), (more, on ∙ ap (λ p. went v p more) (taken_still c.args.spot.now (as_kept c.step.new.seat.list c.step.new.seat.record) v.place c.requires.place), spins_append c.args.spot.now (inv.0 ++ spins.0) _ (spins_append c.args.spot.now inv.0 spins.0 inv.2 spins.2) ((refl, refl), tt)))
 
 pub returns-then-step-eq0-clause-barrier : goal.returns-then-step-eq0-clause-barrier
 returns-then-step-eq0-clause-barrier g c =
@@ -60,4 +60,4 @@ returns-then-step-eq0-clause-barrier g c =
     let inv = c.loop.invariant.2 in
     let spins = c.spin.ensures.view in
     let at = went_through v _ _ _ (spun true v.place) inv.0 spins.0 inv.1 (spins.1 ∙ ap (λ (y : WaitView _). went c.loop.seat.view (spun true y.place) spins.0) inv.1) in
-    subst {A = ℕ × PartyView _} (λ y. TellsRecord (g.P.Party.means c.args.table.now.party) (size_of c.args.table.now) c.args.table.now.phase (g.P.Party.word_count c.args.table.now.party) c.args.spot y.0 y.1 c.step.new.seat.record) (λ i. ((c.spin.ensures.table.1 ∙ c.loop.invariant.1) i, party_of (at i))) (c.step.ensures.barrier c.if-step-eq0.true)
+    subst {A = ℕ × PartyView _} (λ y. TellsRecord (g.P.Party.means c.args.table.now.party) (size_of c.args.table.now) c.args.table.now.phase (g.P.Party.word_count c.args.table.now.party) c.args.spot.now y.0 y.1 c.step.new.seat.record) (λ i. ((c.spin.ensures.table.1 ∙ c.loop.invariant.1) i, party_of (at i))) (c.step.ensures.barrier c.if-step-eq0.true)
