@@ -1,5 +1,5 @@
 -- Each step leaves lists at home that the steps of the seats account for.
-use Rattle.std.proofs.Common.{◌≡◌, ℕ, zero, suc, ◌<◌, Bool, true, false, cond, List, [], ◌∷◌, ◌++◌, length, map, get_or, set, Option, None, Some, refl, sym, ap, ◌∙◌, subst, arith}
+use Rattle.std.proofs.Common.{◌≡◌, ℕ, zero, suc, ◌<◌, eqb, Bool, true, false, cond, List, [], ◌∷◌, ◌++◌, length, map, get_or, set, Option, None, Some, refl, sym, ap, ◌∙◌, subst, arith, eq-eqb}
 use Rattle.std.proofs.lemmas.Bool.{eqb-true}
 use Rattle.std.proofs.lemmas.List.{length-map}
 use mathlib.Core.Option as maybe
@@ -19,14 +19,15 @@ use Rattle.lw_core.specs.declared.view.Size.{Size}
 use Rattle.lw_core.specs.declared.view.View.{View}
 use Rattle.lw_core.specs.declared.view.Waiter.{Waiter}
 use Rattle.lw_core.specs.Words.{Waiters}
-use Rattle.lw_core.specs.WaitLists.{AllEmpty, home_of, home_list}
+use Rattle.lw_core.specs.WaitLists.{waiter, same_want, AllEmpty, home_of, home_list}
 use Rattle.lw_core.specs.Machine.{LwState, number_of, lock_number, word_of, next, left_at, sends_home, takes_list, list_of, made_with, as_waiters, act_of, carried, IsInRange, Allowed, after, fresh}
 use Rattle.lw_core.specs.Stances.{Hand, hand_of, hand_at, stance_of}
 use Rattle.lw_core.specs.WordsAreMade.{all_steps}
-use Rattle.lw_core.specs.ListsAreMade.{is_same, is_home, moves, at_homes, ListsAreMade}
+use Rattle.lw_core.specs.ListsAreMade.{is_same, is_home, moves, at_homes, ListsAreMade, StepsDecideLists}
 use Rattle.lw_core.specs.Told.{lock_in_hand}
 use Rattle.lw_core.specs.Rule.{EachListIsMade, Rule}
 use Rattle.lw_core.specs.Runs.{drew_one, stays, comes, both, spent, drawn, split, joined}
+use Rattle.lw_core.proofs.Lists.{same_want_is, same_want_self}
 use Rattle.lw_core.proofs.Turns.{Homes}
 use Rattle.lw_core.proofs.Turning.{sending_at, detaching_at}
 use Rattle.lw_core.proofs.Seats.{out, seat_at}
@@ -132,3 +133,25 @@ opened_bit (x ∷ lists) list (suc i) below all = opened_bit lists list i (omega
 pub lists_made_opens : (z : Size) (lists : List Waiters) (own : Option ℕ) → length lists ≡ z.locks → AllEmpty lists → ListsAreMade z (map maybe.some lists) (all_steps (fresh own) ∷ [])
 lists_made_opens z lists own long all list zero above below = absurd (omega arith)
 lists_made_opens z lists own long all list (suc i) above below = let a = opened_bit lists list i (omega arith) all in omega arith
+
+-- THE STEPS DECIDE. A list is the same as itself, and as no other
+same_self : (ws : List Waiter) → is_same ws ws ≡ 1
+same_self [] = refl
+same_self (w ∷ ws) = (λ i. cond (eq-eqb w.proc w.proc refl i) (cond (same_want_self w.want i) (is_same ws ws) 0) 0) ∙ same_self ws
+
+same_is : (us ws : List Waiter) → is_same us ws ≡ 1 → us ≡ ws
+same_is [] [] is = refl
+same_is [] (w ∷ ws) is = absurd (omega arith)
+same_is (u ∷ us) [] is = absurd (omega arith)
+same_is (u ∷ us) (w ∷ ws) is = by_tests (eqb u.proc w.proc) (same_want u.want w.want) refl refl is (same_is us ws)
+  where
+    by_tests : (a b : Bool) → eqb u.proc w.proc ≡ a → same_want u.want w.want ≡ b → cond {A = ℕ} a (cond {A = ℕ} b (is_same us ws) 0) 0 ≡ 1 → (is_same us ws ≡ 1 → us ≡ ws) → u ∷ us ≡ w ∷ ws
+    by_tests true true proc want is rest = λ i. waiter (eqb-true u.proc w.proc proc i) (same_want_is u.want w.want want i) ∷ rest is i
+    by_tests true false proc want is rest = absurd (omega arith)
+    by_tests false b proc want is rest = absurd (omega arith)
+
+pub steps_decide : (z : Size) → StepsDecideLists z
+steps_decide z homes others seats l list other below made made_too at at_too =
+    let here = home_bit list.items homes l (maybe.some list) at in let there = home_bit list.items others l (maybe.some other) at_too in
+    let one = made list.items (suc l) (omega arith) (omega arith) in let two = made_too list.items (suc l) (omega arith) (omega arith) in let same = same_self list.items in
+    same_is list.items other.items (omega arith)

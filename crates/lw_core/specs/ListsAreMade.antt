@@ -1,6 +1,7 @@
 -- Each list at home is what the steps of the seats made of it.
-use Rattle.std.specs.Prelude.{ℕ, suc, ◌==◌, cond, List, [], ◌∷◌, map}
+use Rattle.std.specs.Prelude.{◌≡◌, ℕ, suc, ◌<◌, ◌==◌, cond, List, [], ◌∷◌, map}
 use mathlib.Core.Option as maybe
+use lib.ListN.{get_elem?}
 use Rattle.lw_core.specs.declared.step.LwStep.{LwStep}
 use Rattle.lw_core.specs.declared.view.Made.{Made}
 use Rattle.lw_core.specs.declared.view.Size.{Size}
@@ -42,3 +43,8 @@ at_homes list homes = 0 ∷ map (is_home list) homes
 -- Each list has gone home to a slot, with what lay there at the opening, as often as it was taken from there; and once more where it is there. At the opening nobody is on a list
 abbrev pub ListsAreMade : Size → List (maybe.Option Waiters) → List (List (ℕ × Made)) → Type 0
 ListsAreMade z homes seats = (list : List Waiter) → AreMade (moves list) (λ i. is_same list []) (suc z.locks) (at_homes list homes) seats
+
+-- So the steps decide which list lies in a slot: each waiter on it, once, and in which order
+abbrev pub StepsDecideLists : Size → Type 0
+StepsDecideLists z = (homes others : List (maybe.Option Waiters)) (seats : List (List (ℕ × Made))) (l : ℕ) (list other : Waiters) → l < z.locks → ListsAreMade z homes seats → ListsAreMade z others seats
+    → get_elem? homes l ≡ maybe.some (maybe.some list) → get_elem? others l ≡ maybe.some (maybe.some other) → list.items ≡ other.items

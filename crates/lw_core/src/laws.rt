@@ -2,6 +2,7 @@
 ghost use Rattle.std.specs.Prelude.{◌<◌, ◌≤◌, List};
 ghost use Rattle.lw_core.specs.Machine.{LwState};
 ghost use Rattle.lw_core.specs.FramesStand.{FramesStand};
+ghost use Rattle.lw_core.specs.ListsAreMade.{StepsDecideLists};
 ghost use Rattle.lw_core.specs.Rule.{Rule, NumbersStand, EachWordIsMade, EachListIsMade, PlacesFit, EachCountsHolders, EachGuardedIsLawful, EachListInOneHand, EachHandInside, EachListedOnce, EachWaitingTells, EachFlagCovers, EachReleaseOkIsOwed, EachWakeIsConserved, EachMarkerPosts, EachFreeLockIsAnswered, EachVariableIsAnnounced};
 ghost use Rattle.lw_core.specs.Runs.{Event, Run};
 ghost use Rattle.lw_core.specs.NoLostWake.{NoWakeIsLost, NoFreeLockIsSleptFor, NoStaleSleep};
@@ -31,6 +32,7 @@ pub fn lists_are_made<G: Guarded>(size: Size)
     requires procs { (0 < size.procs) × (size.procs ≤ 64) }
     ensures step { KeptByEach G.lawful size (EachListIsMade size) }
     ensures runs { HoldsInRuns G.lawful size (EachListIsMade size) }
+    ensures decided { StepsDecideLists size }
 {}
 
 /// Each seat's place says rightly what the seat holds and what is to follow.

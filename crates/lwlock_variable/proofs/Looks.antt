@@ -1,5 +1,5 @@
 -- How a look at a lock and its variable goes, and what was found in a call. Those who wait until a lock is free are the table's.
-use Rattle.std.proofs.Common.{◌≡◌, ℕ, ◌<◌, eqb, Bool, true, false, cond, List, [], ◌∷◌, ◌++◌, Option, None, Some, ap, ◌∙◌, append_assoc}
+use Rattle.std.proofs.Common.{◌≡◌, ℕ, eqb, true, false, cond, List, [], ◌∷◌, ◌++◌, Option, None, Some, ap, ◌∙◌, append_assoc}
 use Rattle.proc_table.specs.declared.Mode.TheVariants.{Shared}
 use Rattle.lw_core.specs.declared.step.Call.{Call}
 use Rattle.lw_core.specs.declared.step.Call.TheVariants.{WaitForVar}
@@ -8,9 +8,7 @@ use Rattle.lw_core.specs.declared.view.Frame.TheVariants.{Comparing, Returning, 
 use Rattle.lw_core.specs.declared.view.Made.{Made}
 use Rattle.lw_core.specs.declared.view.View.{View}
 use Rattle.lw_core.specs.declared.view.Waiter.{Waiter}
-use Rattle.lw_core.specs.declared.view.Want.TheVariants.{UntilFree}
 use Rattle.lw_core.specs.Machine.{compared, in_hand, left_at, made, made_with, next, number_of, on_conflict, on_outcome, outer, peeked, sent_home}
-use Rattle.lw_core.specs.WaitLists.{AllBelow, same_want, until_free_from}
 use Rattle.lw_core.specs.Words.{is_free}
 use Rattle.lwlock.specs.Calls.{FoundInCall, went}
 use Rattle.lwlock.proofs.Later.{found_before, found_since}

@@ -20,10 +20,11 @@ returns-then-listed-2-clause-view g c =
 pub returns-clause-view : goal.returns-clause-view
 returns-clause-view g c =
     let l : ℕ = c.args.lock in let v : View = c.args.seat.now.view in let b : View = c.step-listed.new.seat.view in let taken = c.take_list.ensures.view in let n = c.step-listed.result.old in let x = c.step.result.old in let y = c.step-2.result.old in let clears = c.is_empty-last.result in
-    let w : View = c.sleep.new.seat.view in let slept = c.sleep.ensures.view in let same : c.if-listed.seat.view ≡ b = search rules in
-    (taken.0 ++ (made WaitLoad n ∷ made_with (Unlock l clears) x c.take_list.new.seat.list ∷ made (SetReleaseOk l) y ∷ slept.0),
-        left_taken l n x y w.surplus c.args.want clears c.take_list.new.seat.list c.step-listed.new.seat.list c.step.new.seat.list c.step-2.new.seat.list taken.0 slept.0 v c.take_list.new.seat.view b c.step.new.seat.view c.step-2.new.seat.view w c.requires.place taken.1
-        c.step-listed.ensures.view c.if-listed-2.false (c.step.ensures.view ∙ ap (λ (u : View). next (Unlock l clears) u x c.step.new.seat.list) same) c.step-2.ensures.view slept.1)
+    let w : View = c.sleep.new.seat.view in let slept = c.sleep.ensures.view in let same : c.if-listed.seat.view ≡ b = search rules in (
+      taken.0 ++ (made WaitLoad n ∷ made_with (Unlock l clears) x c.take_list.new.seat.list ∷ made (SetReleaseOk l) y ∷ slept.0),
+      left_taken l n x y w.surplus c.args.want clears c.take_list.new.seat.list c.step-listed.new.seat.list c.step.new.seat.list c.step-2.new.seat.list taken.0 slept.0 v c.take_list.new.seat.view b c.step.new.seat.view c.step-2.new.seat.view w c.requires.place taken.1
+          c.step-listed.ensures.view c.if-listed-2.false (c.step.ensures.view ∙ ap (λ (u : View). next (Unlock l clears) u x c.step.new.seat.list) same) c.step-2.ensures.view slept.1,
+    )
 
 pub returns-clause-program : goal.returns-clause-program
 returns-clause-program g c =

@@ -1,4 +1,4 @@
-use Rattle.std.proofs.Common.{◌≡◌, ◌-◌, Bool, true, List, [], ◌∷◌, ◌++◌, Option, refl, sym, ap, ◌∙◌, subst, append_assoc}
+use Rattle.std.proofs.Common.{◌≡◌, ◌-◌, Bool, true, [], ◌∷◌, ◌++◌, refl, sym, ap, ◌∙◌, subst, append_assoc}
 use Rattle.lw_core.specs.declared.step.LwStep.TheVariants.{Sub}
 use Rattle.lw_core.specs.declared.view.Made.{Made}
 use Rattle.lw_core.specs.declared.view.View.{View}
