@@ -1,5 +1,5 @@
 //! How a backend attaches to a barrier, and leaves it.
-ghost use Rattle.std.specs.Prelude.{◌≡◌, ◌<◌, ◌==◌, [], ◌∷◌, List, ℕ, None, Some, ⊥};
+ghost use Rattle.std.specs.Prelude.{◌≡◌, ◌<◌, ◌==◌, [], ◌∷◌, List, ℕ, None, Some};
 ghost use Rattle.wait_core.specs.declared.step.Call.TheVariants as call;
 ghost use Rattle.wait_core.specs.declared.view.Made.{Made};
 ghost use Rattle.wait_core.specs.declared.view.Record.{Record};
@@ -31,13 +31,12 @@ pub fn attach<P: Party, R: Wait>(
     ensures table { (seat.new.table_id ≡ seat.old.table_id) × (seat.new.id ≡ seat.old.id) }
     ensures attached { (more : List Made) × (seat.new.view ≡ attaching seat.old.view ((bar, result) ∷ seat.old.view.attached) more) × Visits bar (call.Attach bar) seat.old.view.target more }
 {
-    let spot = Spot::Bar(bar);
-    take_spot(rt, table, seat, spot, Some(Call::Attach(bar)));
+    take_spot(rt, table, seat, Spot::Bar(bar), Some(Call::Attach(bar)));
     let record = seat.record_mut();
     let phase = record.phase;
     record.participants += 1;
     let target = seat.target();
-    table.step(seat, WaitStep::Free(spot, target));
+    table.step(seat, WaitStep::Free(Spot::Bar(bar), target));
     phase
 }
 
@@ -56,12 +55,11 @@ pub fn detach<P: Party, R: Wait>(
     ensures detached { (more : List Made) × (seat.new.view ≡ attaching seat.old.view (away_from bar seat.old.view.attached) more) × Visits bar (call.Detach bar) seat.old.view.target more }
     ensures last { (found : Record) × CountsAttached (P.means table.now.party) (size_of table.now) table.now.phase (P.word_count table.now.party) bar seat.old.id (party_of seat.old.view) found × (result ≡ (found.participants == 1)) }
 {
-    let spot = Spot::Bar(bar);
-    take_spot(rt, table, seat, spot, Some(Call::Detach(bar)));
+    take_spot(rt, table, seat, Spot::Bar(bar), Some(Call::Detach(bar)));
     let record = seat.record_mut();
     record.participants -= 1;
     let last = record.participants == 0;
     let target = seat.target();
-    table.step(seat, WaitStep::Free(spot, target));
+    table.step(seat, WaitStep::Free(Spot::Bar(bar), target));
     last
 }
