@@ -11,10 +11,10 @@ ghost use Rattle.wait_core.specs.Machine.{MayBegin, made, number_of, outer};
 ghost use Rattle.condition_variable.specs.Visits.{Visits, stands};
 ghost use Rattle.condition_variable.specs.Calls.{Sleeps, relisted};
 
-use crate::list::{rejoin};
+use crate::list::rejoin;
 use crate::prepare::go_to_list;
-use latch::{wait_in_sleep, wait_latch_only};
 use crate::taking::take_spot;
+use latch::{wait_in_sleep, wait_latch_only};
 use proc_table::CvNo;
 use std::sync::Wait;
 use wait_core::{Call, Party, Spot, WaitSeat, WaitStep, WaitTable};

@@ -1,5 +1,5 @@
 -- What each step keeps of barriers, and of the client's law.
-use Rattle.std.proofs.Common.{◌≡◌, ◌≢◌, ◌⊎◌, ℕ, zero, suc, ◌+◌, ◌-◌, ◌<◌, ◌≤◌, eqb, Bool, true, false, cond, List, [], ◌∷◌, ◌++◌, map, length, get_or, set, Option, None, Some, refl, sym, ap, ◌∙◌, subst, ⊎_elim, inl, inr, arith, eq-eqb, ne_eqb, eqb-true}
+use Rattle.std.proofs.Common.{◌≡◌, ◌≢◌, ℕ, ◌+◌, ◌-◌, ◌<◌, ◌≤◌, eqb, Bool, true, false, cond, List, [], ◌∷◌, map, length, get_or, set, Option, None, Some, refl, sym, ap, ◌∙◌, subst, inl, arith, eq-eqb, ne_eqb, eqb-true}
 use Rattle.std.proofs.lemmas.List.{drop-set-lt, length-map}
 use mathlib.Core.Logic.{dite}
 use mathlib.Core.Option as maybe
@@ -7,13 +7,13 @@ use native.Mathlib.Decide.{ℕ_discrete}
 use lib.ListN.{get_elem?}
 use lib.Seq.{map-set}
 use Rattle.atomic_table.specs.Table.{homes_after, keeps, takes, stepped}
-use Rattle.atomic_table.proofs.Lists.{at_map, at_set}
+use Rattle.atomic_table.proofs.Lists.{at_map}
 use Rattle.wait_core.specs.declared.step.Spot.{Spot}
 use Rattle.wait_core.specs.declared.step.Spot.TheVariants.{Cv, Bar}
 use Rattle.wait_core.specs.declared.step.Call.{Call}
 use Rattle.wait_core.specs.declared.step.WaitStep.{WaitStep}
 use Rattle.wait_core.specs.declared.step.WaitStep.TheVariants.{Sload, Sset, Reset, Mstore, Mload, Byte, Look, Drain, Shload, Shstore, Take, Spin, Free}
-use Rattle.wait_core.specs.declared.view.Frame.TheVariants.{Taking, Spinning, Holding}
+use Rattle.wait_core.specs.declared.view.Frame.TheVariants.{Taking, Holding}
 use Rattle.wait_core.specs.declared.view.Job.{Job}
 use Rattle.wait_core.specs.declared.view.Job.TheVariants as job
 use Rattle.wait_core.specs.declared.view.Kept.{Kept}
@@ -23,18 +23,18 @@ use Rattle.wait_core.specs.declared.view.Size.{Size}
 use Rattle.wait_core.specs.declared.view.WaitView.{WaitView}
 use Rattle.seat_roster.specs.Totals.{total}
 use Rattle.seat_roster.specs.Roster.{one_if}
-use Rattle.seat_roster.proofs.Totals.{total_set, total_at, total_map, total_none, total_gap}
+use Rattle.seat_roster.proofs.Totals.{total_set, total_at, total_map, total_gap}
 use Rattle.seat_roster.proofs.Stretches.{unseen, each_set}
 use Rattle.wait_core.specs.Words.{most_conditions, slot_of, slots_in, spin_at, client_base, client_words}
-use Rattle.wait_core.specs.Jobs.{spot_of, left_list, left_record, away_from, attached_after}
-use Rattle.wait_core.specs.Machine.{WaitState, Place, top, taken, number_of, word_of, becomes, left_at, home_in, home_of, slot_number, act_of, carried, freed_attached, attached_then, place_then, next_with, IsSpot, MayFree, MayTake, Permits}
+use Rattle.wait_core.specs.Jobs.{spot_of, left_record, away_from, attached_after}
+use Rattle.wait_core.specs.Machine.{WaitState, Place, top, taken, number_of, word_of, becomes, left_at, home_in, home_of, slot_number, act_of, carried, freed_attached, attached_then, next_with, IsSpot, MayFree, MayTake, Permits}
 use Rattle.wait_core.specs.Meanings.{Meanings}
-use Rattle.wait_core.specs.Parties.{phase_of, now, Reattached, Barriers, Here, HereBut, IsEnter, IsLeave}
+use Rattle.wait_core.specs.Parties.{phase_of, now, Barriers, Here, IsEnter, IsLeave}
 use Rattle.wait_core.specs.Seating.{numbers_of, standing_of, party_of}
 use Rattle.wait_core.specs.Fits.{Fits}
 use Rattle.wait_core.specs.LeftAreFree.{IsFree, LeftAreFree}
-use Rattle.wait_core.specs.Stances.{Stance, Homes, hand_at, slot_in, stance_of, has_slot, has_list}
-use Rattle.wait_core.specs.Barriers.{Attendance, attendance_of, asked, asked_by, asks_at, asks_then, held_field, field_of, phase_in, phases, phases_in, takes_part, CountsParticipants, NoneIsBelow, IsHere, IdleAreHere, JobSuits, CallsSuit, StepSuits}
+use Rattle.wait_core.specs.Stances.{Homes, hand_at, slot_in, stance_of, has_list}
+use Rattle.wait_core.specs.Barriers.{Attendance, attendance_of, asked, asks_at, asks_then, held_field, field_of, phase_in, phases, phases_in, takes_part, CountsParticipants, NoneIsBelow, IsHere, IdleAreHere, JobSuits, CallsSuit, StepSuits}
 use Rattle.wait_core.specs.ClientHolds.{ClientHolds}
 use Rattle.wait_core.specs.Rule.{Rule}
 use Rattle.wait_core.specs.Told.{slot_then, CountsSeat, TellsRecord, TellsBarrier}
@@ -53,7 +53,7 @@ attached_here b ph l = ap (λ (t : Bool). cond t (Some ph) (phase_of l b)) (eq-e
 attached_else : (b ph c : ℕ) (l : List (ℕ × ℕ)) → c ≢ b → phase_of ((b, ph) ∷ l) c ≡ phase_of l c
 attached_else b ph c l ne = ap (λ (t : Bool). cond t (Some ph) (phase_of l c)) (ne_eqb b c (λ e. ne (sym e)))
 
-away_here : (b : ℕ) (l : List (ℕ × ℕ)) → phase_of (away_from b l) b ≡ None
+pub away_here : (b : ℕ) (l : List (ℕ × ℕ)) → phase_of (away_from b l) b ≡ None
 away_here b [] = refl
 away_here b (a ∷ l) = by_bar (eqb a.0 b) refl (away_here b l)
   where
@@ -145,15 +145,15 @@ module _ {C : Type 0} (means : Meanings C) (z : Size) (phase : ℕ) where
         → means.holds (client_words z words) (set (map party_of s.views) id u) (phases_in z s) → Attended t
     moved numbered u party mine won same counts knows suits law = let stay = phases_stay same in
         let parties : map party_of (set s.views id w) ≡ set (map party_of s.views) id u = map-set party_of s.views id w ∙ ap (set (map party_of s.views) id) party in record {
-      left = subst LeftAreFree (sym parties) (each_set (λ (x : PartyView C). x.proc ≡ None → IsFree x) (map party_of s.views) id u a.left (λ none. absurd (numbered (sym mine ∙ none))));
-      barriers = subst (λ (x : List (PartyView C) × List ℕ). Barriers x.0 x.1) (λ i. (sym parties i, sym stay i)) (barriers_reattached (map party_of s.views) (phases_in z s) id (party_of v) u (at_map party_of s.views id v at) a.barriers won knows);
-      here = subst (λ (x : List ℕ × List (Attendance C)). IdleAreHere x.0 x.1) (λ i. (sym stay i, sym seen i))
-          (each_set (IsHere (phases_in z s)) before id (attendance_of w) a.here (λ _. subst (Here (phases_in z s)) (sym party) (λ b ph is. (knows b ph is).0)));
-      participants = subst (CountsParticipants z homes) (sym seen) counts;
-      reached = reached_stays same;
-      suits = suits_after suits;
-      client = subst (λ (x : List (PartyView C) × List ℕ). means.holds (client_words z words) x.0 x.1) (λ i. (sym parties i, sym stay i)) law;
-    }
+          left = subst LeftAreFree (sym parties) (each_set (λ (x : PartyView C). x.proc ≡ None → IsFree x) (map party_of s.views) id u a.left (λ none. absurd (numbered (sym mine ∙ none))));
+          barriers = subst (λ (x : List (PartyView C) × List ℕ). Barriers x.0 x.1) (λ i. (sym parties i, sym stay i)) (barriers_reattached (map party_of s.views) (phases_in z s) id (party_of v) u (at_map party_of s.views id v at) a.barriers won knows);
+          here = subst (λ (x : List ℕ × List (Attendance C)). IdleAreHere x.0 x.1) (λ i. (sym stay i, sym seen i))
+              (each_set (IsHere (phases_in z s)) before id (attendance_of w) a.here (λ _. subst (Here (phases_in z s)) (sym party) (λ b ph is. (knows b ph is).0)));
+          participants = subst (CountsParticipants z homes) (sym seen) counts;
+          reached = reached_stays same;
+          suits = suits_after suits;
+          client = subst (λ (x : List (PartyView C) × List ℕ). means.holds (client_words z words) x.0 x.1) (λ i. (sym parties i, sym stay i)) law;
+        }
 
 -- a step that takes and frees no spin word
 apart_homes : (k : WaitStep) → IsApart k → (homes : Homes) (c : List (ℕ × Kept)) (n : ℕ) (found : Kept) → homes_after homes c (act_of k n found) ≡ homes
@@ -343,8 +343,8 @@ module _ {C : Type 0} (means : Meanings C) (z : Size) (phase count : ℕ) (s : W
           moved means z phase s attended id v w at words homes (λ none. absurd (cc)) (record (party_of v) { attached = l }) party refl refl (λ c inside. kept (λ r. r.phase) refl (ap (λ (x : Record). x.phase) counted) c)
           (λ c inside. counts c inside (total_set (takes_part c) seats id (attendance_of v) (attendance_of w) seat))
           (λ c ph e. dite (ℕ_discrete c b)
-              (λ (at_b : c ≡ b). let mine : found.phase ≡ ph = some_is found.phase ph (sym (attached_here b found.phase v.attached) ∙ (ap (phase_of l) (sym at_b) ∙ e)) in (ap (now (phases_in z s)) at_b ∙ (phase_is ∙ mine), omega arith))
-              (λ ne. let old = sym (attached_else b found.phase c v.attached ne) ∙ e in (here c ph old, r.barriers.inside id (party_of v) (at_map party_of s.views id v at) c ph old)))
+          (λ (at_b : c ≡ b). let mine : found.phase ≡ ph = some_is found.phase ph (sym (attached_here b found.phase v.attached) ∙ (ap (phase_of l) (sym at_b) ∙ e)) in (ap (now (phases_in z s)) at_b ∙ (phase_is ∙ mine), omega arith))
+          (λ ne. let old = sym (attached_else b found.phase c v.attached ne) ∙ e in (here c ph old, r.barriers.inside id (party_of v) (at_map party_of s.views id v at) c ph old)))
           (subst (λ (x : Option Job). JobSuits means x (party_of w)) (sym asks) tt)
           (subst (λ (x : List ℕ). means.holds x (set (map party_of s.views) id (record (party_of v) { attached = l })) (phases_in z s)) (sym same_client) (laws.enter (client_words z s.words) (map party_of s.views) (phases_in z s) id (party_of v) (record (party_of v) { attached = l }) b r.client (record {
             at = at_map party_of s.views id v at;
@@ -359,11 +359,11 @@ module _ {C : Type 0} (means : Meanings C) (z : Size) (phase count : ℕ) (s : W
           counts : (c : ℕ) → c < z.bars → total (takes_part c) now_seats + takes_part c (attendance_of v) ≡ total (takes_part c) seats + takes_part c (attendance_of w) → field_of (λ r. r.participants) c homes now_seats ≡ total (takes_part c) now_seats
           counts c inside sum = let was = r.participants c inside in dite (ℕ_discrete c b)
               (λ (at_b : c ≡ b).
-                  let e = sent (λ r. r.participants) refl c (ap slot_of is ∙ ap (λ (n : ℕ). slot_of (Bar n)) (sym at_b)) in let p = ap (λ (x : Record). x.participants) counted in
-                  let none : takes_part c (attendance_of v) ≡ 0 = ap one_if (ap (phase_of v.attached) at_b ∙ suits.0) in
-                  let one : takes_part c (attendance_of w) ≡ 1 = ap (λ (u : PartyView C). one_if (phase_of u.attached c)) party ∙ ap one_if (ap (phase_of ((b, found.phase) ∷ v.attached)) at_b ∙ attached_here b found.phase v.attached) in omega arith)
+              let e = sent (λ r. r.participants) refl c (ap slot_of is ∙ ap (λ (n : ℕ). slot_of (Bar n)) (sym at_b)) in let p = ap (λ (x : Record). x.participants) counted in
+              let none : takes_part c (attendance_of v) ≡ 0 = ap one_if (ap (phase_of v.attached) at_b ∙ suits.0) in
+              let one : takes_part c (attendance_of w) ≡ 1 = ap (λ (u : PartyView C). one_if (phase_of u.attached c)) party ∙ ap one_if (ap (phase_of ((b, found.phase) ∷ v.attached)) at_b ∙ attached_here b found.phase v.attached) in omega arith)
               (λ ne. let e = else (λ r. r.participants) refl c (λ h. ne (let x = sym (ap slot_of is) ∙ h in omega arith)) in
-                  let same : takes_part c (attendance_of w) ≡ takes_part c (attendance_of v) = ap (λ (u : PartyView C). one_if (phase_of u.attached c)) party ∙ ap one_if (attached_else b found.phase c v.attached ne) in omega arith)
+              let same : takes_part c (attendance_of w) ≡ takes_part c (attendance_of v) = ap (λ (u : PartyView C). one_if (phase_of u.attached c)) party ∙ ap one_if (attached_else b found.phase c v.attached ne) in omega arith)
 
       -- without the seat, which was attached to the barrier
       detaches : (b : ℕ) (words : List ℕ) → spot_of j ≡ Bar b → b < z.bars → left_record j found ≡ record found { participants = found.participants - 1 } → party_of w ≡ record (party_of v) { attached = away_from b v.attached } → asks_at w.place ≡ None
@@ -373,8 +373,8 @@ module _ {C : Type 0} (means : Meanings C) (z : Size) (phase count : ℕ) (s : W
           moved means z phase s attended id v w at words homes (λ none. absurd (cc)) (record (party_of v) { attached = away_from b v.attached }) party refl refl (λ c inside. kept (λ r. r.phase) refl (ap (λ (x : Record). x.phase) counted) c)
           (λ c inside. counts c inside (total_set (takes_part c) seats id (attendance_of v) (attendance_of w) seat))
           (λ c g e. dite (ℕ_discrete c b)
-              (λ (at_b : c ≡ b). absurd (none_isnt g (sym (away_here b v.attached) ∙ (ap (phase_of (away_from b v.attached)) (sym at_b) ∙ e))))
-              (λ ne. let old = sym (away_else b c v.attached ne) ∙ e in (here c g old, r.barriers.inside id (party_of v) (at_map party_of s.views id v at) c g old)))
+          (λ (at_b : c ≡ b). absurd (none_isnt g (sym (away_here b v.attached) ∙ (ap (phase_of (away_from b v.attached)) (sym at_b) ∙ e))))
+          (λ ne. let old = sym (away_else b c v.attached ne) ∙ e in (here c g old, r.barriers.inside id (party_of v) (at_map party_of s.views id v at) c g old)))
           (subst (λ (x : Option Job). JobSuits means x (party_of w)) (sym asks) tt)
           (subst (λ (x : List ℕ). means.holds x (set (map party_of s.views) id (record (party_of v) { attached = away_from b v.attached })) (phases_in z s)) (sym same_client) (laws.leave (client_words z s.words) (map party_of s.views) (phases_in z s) id (party_of v) (record (party_of v) { attached = away_from b v.attached }) b ph r.client (record {
             at = at_map party_of s.views id v at;
@@ -390,11 +390,11 @@ module _ {C : Type 0} (means : Meanings C) (z : Size) (phase count : ℕ) (s : W
           counts : (c : ℕ) → c < z.bars → total (takes_part c) now_seats + takes_part c (attendance_of v) ≡ total (takes_part c) seats + takes_part c (attendance_of w) → field_of (λ r. r.participants) c homes now_seats ≡ total (takes_part c) now_seats
           counts c inside sum = let was = r.participants c inside in dite (ℕ_discrete c b)
               (λ (at_b : c ≡ b).
-                  let slot_is = ap slot_of is ∙ ap (λ (n : ℕ). slot_of (Bar n)) (sym at_b) in let e = sent (λ r. r.participants) refl c slot_is in let p = ap (λ (x : Record). x.participants) counted in let h = held (λ r. r.participants) refl c slot_is in
-                  let one : takes_part c (attendance_of v) ≡ 1 = ap one_if (ap (phase_of v.attached) at_b ∙ there) in let some = total_at (takes_part c) seats id (attendance_of v) seat in
-                  let none : takes_part c (attendance_of w) ≡ 0 = ap (λ (u : PartyView C). one_if (phase_of u.attached c)) party ∙ ap one_if (ap (phase_of (away_from b v.attached)) at_b ∙ away_here b v.attached) in omega arith)
+              let slot_is = ap slot_of is ∙ ap (λ (n : ℕ). slot_of (Bar n)) (sym at_b) in let e = sent (λ r. r.participants) refl c slot_is in let p = ap (λ (x : Record). x.participants) counted in let h = held (λ r. r.participants) refl c slot_is in
+              let one : takes_part c (attendance_of v) ≡ 1 = ap one_if (ap (phase_of v.attached) at_b ∙ there) in let some = total_at (takes_part c) seats id (attendance_of v) seat in
+              let none : takes_part c (attendance_of w) ≡ 0 = ap (λ (u : PartyView C). one_if (phase_of u.attached c)) party ∙ ap one_if (ap (phase_of (away_from b v.attached)) at_b ∙ away_here b v.attached) in omega arith)
               (λ ne. let e = else (λ r. r.participants) refl c (λ h. ne (let x = sym (ap slot_of is) ∙ h in omega arith)) in
-                  let same : takes_part c (attendance_of w) ≡ takes_part c (attendance_of v) = ap (λ (u : PartyView C). one_if (phase_of u.attached c)) party ∙ ap one_if (away_else b c v.attached ne) in omega arith)
+              let same : takes_part c (attendance_of w) ≡ takes_part c (attendance_of v) = ap (λ (u : PartyView C). one_if (phase_of u.attached c)) party ∙ ap one_if (away_else b c v.attached ne) in omega arith)
 
     freed_within : (j : Job) (list : List ℕ) (found : Record) (q : Place) → v.place ≡ Holding j list found ∷ q → (target : Option ℕ) → Permits z (Free (spot_of j) target) (Some o) v.target v.place → word_of z o (Free (spot_of j) target) < client_base z → StillAttended (Free (spot_of j) target)
     freed_within j list found q place target ok inside = by_job j refl

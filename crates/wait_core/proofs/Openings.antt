@@ -13,7 +13,7 @@ use Rattle.wait_core.specs.declared.view.PartyView.{PartyView}
 use Rattle.wait_core.specs.declared.view.Record.{Record}
 use Rattle.wait_core.specs.declared.view.Size.{Size}
 use Rattle.wait_core.specs.Meanings.{Meanings}
-use Rattle.wait_core.specs.Words.{most_conditions, slot_of, slots_in, may_at, client_base, opening_phases, opened, opening_words}
+use Rattle.wait_core.specs.Words.{most_conditions, slot_of, may_at, client_base, opening_phases, opened, opening_words}
 use Rattle.wait_core.specs.Machine.{WaitState, home_in}
 use Rattle.wait_core.specs.Parties.{newcomer, Barriers}
 use Rattle.wait_core.specs.Seating.{Standing, fresh}

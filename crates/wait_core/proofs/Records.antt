@@ -1,5 +1,5 @@
 -- Where a barrier's record is: at home, or in one hand; and what it reads after each step.
-use Rattle.std.proofs.Common.{◌≡◌, ◌≢◌, ℕ, zero, suc, ◌+◌, ◌<◌, ◌≤◌, eqb, Bool, true, false, cond, List, [], ◌∷◌, ◌++◌, length, map, get_or, set, Option, None, Some, refl, sym, ap, ◌∙◌, arith, eq-eqb, ne_eqb, length-append}
+use Rattle.std.proofs.Common.{◌≡◌, ◌≢◌, ℕ, zero, suc, ◌+◌, ◌<◌, ◌≤◌, eqb, Bool, true, false, cond, List, [], ◌∷◌, ◌++◌, length, get_or, set, None, refl, sym, ap, ◌∙◌, arith, eq-eqb, ne_eqb, length-append}
 use mathlib.Core.Logic.{dite}
 use mathlib.Core.Option as maybe
 use native.Mathlib.Decide.{ℕ_discrete}
@@ -86,8 +86,8 @@ module _ {C : Type 0} where
     field_out blank k j list p home free goes = let c : ℕ = slot_of (spot_of j) in
         let sum = total_set (λ (u : Attendance C). held_field f x u.place) seats id v w at in let had = held_none f x v.place free in let has = ap (held_field f x) goes in dite (ℕ_discrete c x)
         (λ (e : c ≡ x). let mine = held_here f x j list k.record p e in
-            let was : f (home_in homes x).record ≡ f k.record = ap (λ (i : ℕ). f (home_in homes i).record) (sym e) ∙ ap (λ o. f (home_of o).record) home in
-            let now : f (home_in (set homes c maybe.none) x).record ≡ 0 = ap (λ (i : ℕ). f (home_in (set homes c maybe.none) i).record) (sym e) ∙ (ap (λ o. f (home_of o).record) (set_here homes c maybe.none (at_inside homes c (maybe.some k) home)) ∙ blank) in omega arith)
+        let was : f (home_in homes x).record ≡ f k.record = ap (λ (i : ℕ). f (home_in homes i).record) (sym e) ∙ ap (λ o. f (home_of o).record) home in
+        let now : f (home_in (set homes c maybe.none) x).record ≡ 0 = ap (λ (i : ℕ). f (home_in (set homes c maybe.none) i).record) (sym e) ∙ (ap (λ o. f (home_of o).record) (set_here homes c maybe.none (at_inside homes c (maybe.some k) home)) ∙ blank) in omega arith)
         (λ ne. let mine = held_apart f x j list k.record p ne in let now : f (home_in (set homes c maybe.none) x).record ≡ f (home_in homes x).record = ap (λ o. f (home_of o).record) (set_else homes c x maybe.none (λ e. ne (sym e))) in omega arith)
 
     -- what is in hand goes home, to this slot or to another

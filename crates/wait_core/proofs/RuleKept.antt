@@ -1,6 +1,5 @@
 -- Each step of the machine keeps the whole rule.
 use Rattle.std.proofs.Common.{◌≡◌, ◌≢◌, ◌⊎◌, ℕ, ◌+◌, ◌<◌, ◌≤◌, eqb, Bool, true, false, cond, List, [], ◌∷◌, ◌++◌, map, length, get_or, set, Option, None, Some, refl, sym, ap, ◌∙◌, subst, ⊎_elim, arith, length-set, get_or-set_same, get_or-set_other}
-use Rattle.std.proofs.lemmas.List.{drop-set-lt}
 use mathlib.Core.Logic.{dite}
 use mathlib.Core.Option as maybe
 use native.Mathlib.Decide.{ℕ_discrete}
@@ -12,7 +11,6 @@ use Rattle.wait_core.specs.declared.step.WaitStep.{WaitStep}
 use Rattle.wait_core.specs.declared.step.WaitStep.TheVariants.{Sload, Sset, Reset, Mstore, Mload, Byte, Look, Drain, Shload, Shstore, Take, Spin, Free}
 use Rattle.wait_core.specs.declared.step.Call.TheVariants as call
 use Rattle.wait_core.specs.declared.view.Kept.{Kept}
-use Rattle.wait_core.specs.declared.view.PartyView.{PartyView}
 use Rattle.wait_core.specs.declared.view.Size.{Size}
 use Rattle.wait_core.specs.declared.view.WaitView.{WaitView}
 use Rattle.wait_core.specs.Meanings.{Meanings}
@@ -20,7 +18,7 @@ use Rattle.seat_roster.specs.Totals.{total}
 use Rattle.seat_roster.specs.Roster.{Numbers, Roster, times_in, stands}
 use Rattle.wait_core.specs.Words.{most_conditions, byte_at, slot_of, client_base}
 use Rattle.wait_core.specs.Machine.{WaitState, Place, top, left_at, list_of, made_with, place_then, number_of, word_of, becomes, home_in, slot_number, act_of, carried, next_with, Permits, Allowed, after}
-use Rattle.wait_core.specs.Seating.{Standing, numbers_of, standing_of, doings_of, party_of}
+use Rattle.wait_core.specs.Seating.{Standing, numbers_of, standing_of, doings_of}
 use Rattle.wait_core.specs.Fits.{Fits, IsTarget, PlacesFit}
 use Rattle.wait_core.specs.Barriers.{StepSuits}
 use Rattle.wait_core.specs.WordsAreMade.{WordsAreMade}

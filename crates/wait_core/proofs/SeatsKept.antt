@@ -30,7 +30,7 @@ use Rattle.seat_roster.proofs.Stretches.{unseen, from_seen, each_set, each_more}
 use Rattle.seat_roster.proofs.Numbers.{roster_drew, roster_gave, roster_took, pending_inside}
 use Rattle.wait_core.proofs.Records.{field_same}
 use Rattle.wait_core.proofs.Attending.{attended, unmoved, moved, phases_same, few_views}
-use Rattle.wait_core.proofs.BarriersKept.{barriers_set, barriers_more, barriers_joined}
+use Rattle.wait_core.proofs.BarriersKept.{barriers_more, barriers_joined}
 use Rattle.wait_core.proofs.Turns.{first as is_first, client as is_client}
 use Rattle.wait_core.specs.ListsAreMade.{ListsAreMade}
 use Rattle.wait_core.proofs.ListsAreMade.{lists_made_snoc, lists_made_joined}
@@ -68,13 +68,13 @@ module _ {C : Type 0} (means : Meanings C) (z : Size) (phase count : ℕ) where
       let found : get_or (drop b s.words) k 0 ≡ n = get_or-drop b s.words k 0 in
       let seats = map attendance_of s.views in let seat = at_map attendance_of s.views id v at in let here = r.here id (attendance_of v) seat (ap waits_at idle) in
       let b' = moved means z phase s (attended means z phase count s r) id v w at (set s.words (b + k) (f n)) s.homes (has_number v.own p own) (with_client (party_of v) (then n)) refl refl refl
-          (λ c below. field_same s.homes seats id (attendance_of v) (attendance_of w) seat (λ x. x.phase) c refl)
-          (λ c below. let sum = total_set (takes_part c) seats id (attendance_of v) (attendance_of w) seat in let was = r.participants c below in let e = field_same s.homes seats id (attendance_of v) (attendance_of w) seat (λ x. x.participants) c refl in omega arith)
-          (λ c ph e. (here c ph e, r.barriers.inside id (party_of v) (at_map party_of s.views id v at) c ph e))
-          (subst (λ (q : Place). JobSuits means (asks_at q) (party_of w)) (sym idle) tt)
-          (subst (λ (x : List ℕ). means.holds x (set (map party_of s.views) id (with_client (party_of v) (then n))) (phases_in z s)) (sym (drop-set-add b s.words k (f n)))
-          (subst (λ (x : ℕ). means.holds (set (drop b s.words) k (f x)) (set (map party_of s.views) id (with_client (party_of v) (then x))) (phases_in z s)) found
-          (law (drop b s.words) (map party_of s.views) (phases_in z s) r.client (is_step s r id v at p own idle)))) in
+      (λ c below. field_same s.homes seats id (attendance_of v) (attendance_of w) seat (λ x. x.phase) c refl)
+      (λ c below. let sum = total_set (takes_part c) seats id (attendance_of v) (attendance_of w) seat in let was = r.participants c below in let e = field_same s.homes seats id (attendance_of v) (attendance_of w) seat (λ x. x.participants) c refl in omega arith)
+      (λ c ph e. (here c ph e, r.barriers.inside id (party_of v) (at_map party_of s.views id v at) c ph e))
+      (subst (λ (q : Place). JobSuits means (asks_at q) (party_of w)) (sym idle) tt)
+      (subst (λ (x : List ℕ). means.holds x (set (map party_of s.views) id (with_client (party_of v) (then n))) (phases_in z s)) (sym (drop-set-add b s.words k (f n)))
+      (subst (λ (x : ℕ). means.holds (set (drop b s.words) k (f x)) (set (map party_of s.views) id (with_client (party_of v) (then x))) (phases_in z s)) found
+      (law (drop b s.words) (map party_of s.views) (phases_in z s) r.client (is_step s r id v at p own idle)))) in
       record {
         sized = record { procs = r.sized.procs; cvs = r.sized.cvs; long = length-set s.words (b + k) (f n) ∙ r.sized.long; slots = r.sized.slots };
         flags = flags_same z s.words (set s.words (b + k) (f n)) (map standing_of s.views) (map standing_of (set s.views id w)) agree same r.flags;
@@ -108,7 +108,7 @@ module _ {C : Type 0} (means : Meanings C) (z : Size) (phase count : ℕ) where
       let numbers : set ns id (drew (numbers_of v)) ≡ map numbers_of (set s.views id w) = sym (map-set numbers_of s.views id w) in
       let seats = map attendance_of s.views in let seat = at_map attendance_of s.views id v at in
       let b = unmoved means z phase s (attended means z phase count s r) id v w at (set s.words 0 x) s.homes (drop-set-lt (client_base z) s.words 0 x (omega arith)) refl
-          (λ c below. field_same s.homes seats id (attendance_of v) (attendance_of w) seat (λ y. y.phase) c refl) (λ c below. field_same s.homes seats id (attendance_of v) (attendance_of w) seat (λ y. y.participants) c refl) (r.suits id (attendance_of v) seat) in
+      (λ c below. field_same s.homes seats id (attendance_of v) (attendance_of w) seat (λ y. y.phase) c refl) (λ c below. field_same s.homes seats id (attendance_of v) (attendance_of w) seat (λ y. y.participants) c refl) (r.suits id (attendance_of v) seat) in
       record {
         sized = record { procs = r.sized.procs; cvs = r.sized.cvs; long = length-set s.words 0 x ∙ long; slots = r.sized.slots };
         flags = flags_same z s.words (set s.words 0 x) (map standing_of s.views) (map standing_of (set s.views id w)) agree same r.flags;
@@ -194,8 +194,8 @@ module _ {C : Type 0} (means : Meanings C) (z : Size) (phase count : ℕ) where
       let other_seat : get_elem? (set before id (attendance_of x)) other ≡ maybe.some (attendance_of w) = set_else before id other (attendance_of x) apart ∙ at_map attendance_of s.views other w there in
       let seen : map attendance_of (set vs other y) ≡ set (set before id (attendance_of x)) other (attendance_of y) = map-set attendance_of vs other y ∙ ap (λ (l : List (Attendance C)). set l other (attendance_of y)) (map-set attendance_of s.views id x) in
       let held : (f : Record → ℕ) (i : ℕ) → total (λ (u : Attendance C). held_field f i u.place) (set (set before id (attendance_of x)) other (attendance_of y)) ≡ total (λ (u : Attendance C). held_field f i u.place) before = λ f i.
-          let h : Attendance C → ℕ = λ u. held_field f i u.place in let first = total_set h before id (attendance_of v) (attendance_of x) seat in let second = total_set h (set before id (attendance_of x)) other (attendance_of w) (attendance_of y) other_seat in
-          let none : held_field f i w.place ≡ 0 = ap (held_field f i) still in omega arith in
+      let h : Attendance C → ℕ = λ u. held_field f i u.place in let first = total_set h before id (attendance_of v) (attendance_of x) seat in let second = total_set h (set before id (attendance_of x)) other (attendance_of w) (attendance_of y) other_seat in
+      let none : held_field f i w.place ≡ 0 = ap (held_field f i) still in omega arith in
       let stay : phases z s.homes (map attendance_of (set vs other y)) ≡ phases_in z s = (λ i. phases z s.homes (seen i)) ∙ phases_same z s.homes before (set (set before id (attendance_of x)) other (attendance_of y)) held in
       record {
         sized = r.sized;

@@ -1,5 +1,5 @@
 -- What the rule says of who sleeps.
-use Rattle.std.proofs.Common.{◌≡◌, ◌⊎◌, ℕ, ◌<◌, Bool, true, List, [], ◌∷◌, map, get_or, Option, None, Some, refl, ap, ◌∙◌, inl, inr, arith}
+use Rattle.std.proofs.Common.{◌≡◌, ◌⊎◌, ℕ, ◌<◌, Bool, true, [], ◌∷◌, map, get_or, Option, None, Some, refl, ap, ◌∙◌, inl, inr, arith}
 use mathlib.Core.Logic.{dite}
 use native.Mathlib.Decide.{ℕ_discrete}
 use mathlib.Core.Option as maybe
@@ -7,7 +7,6 @@ use lib.ListN.{get_elem?}
 use Rattle.atomic_table.proofs.Lists.{at_map}
 use Rattle.wait_core.specs.declared.view.Frame.{Frame}
 use Rattle.wait_core.specs.declared.view.Frame.TheVariants.{Asleep}
-use Rattle.wait_core.specs.declared.view.PartyView.{PartyView}
 use Rattle.wait_core.specs.declared.view.Size.{Size}
 use Rattle.wait_core.specs.declared.view.WaitView.{WaitView}
 use Rattle.wait_core.specs.Meanings.{Meanings}

@@ -1,5 +1,5 @@
 -- What the table keeps of barriers: where each record is, whom it counts, and what is true of the seats that are attached.
-use Rattle.std.specs.Prelude.{◌≡◌, ℕ, ◌+◌, ◌<◌, ◌≤◌, ◌==◌, cond, List, ◌∷◌, map, slice_index, Option, Some, None, ⊤}
+use Rattle.std.specs.Prelude.{◌≡◌, ℕ, ◌+◌, ◌<◌, ◌≤◌, ◌==◌, cond, List, ◌∷◌, map, Option, Some, None, ⊤}
 use mathlib.Core.Option as maybe
 use lib.ListN.{get_elem?}
 use Rattle.wait_core.specs.declared.step.Spot.TheVariants.{Bar}

@@ -1,5 +1,5 @@
 -- What the table keeps of conditions: each list in one hand at most, who is on which list, and that a signal reaches its backend.
-use Rattle.std.specs.Prelude.{ℕ, ◌+◌, ◌<◌, List, slice_index}
+use Rattle.std.specs.Prelude.{ℕ, ◌<◌, List, slice_index}
 use lib.ListN.{get_elem?}
 use Rattle.wait_core.specs.declared.view.Size.{Size}
 use Rattle.wait_core.specs.Words.{spin_at, slots_in}

@@ -19,7 +19,7 @@ use Rattle.wait_core.specs.declared.view.Kept.{Kept}
 use Rattle.wait_core.specs.declared.view.Record.{Record}
 use Rattle.wait_core.specs.declared.view.Size.{Size}
 use Rattle.wait_core.specs.declared.view.WaitView.{WaitView}
-use Rattle.wait_core.specs.Words.{set_at, may_at, byte_at, shut_at, slot_of, slots_in, spin_at}
+use Rattle.wait_core.specs.Words.{set_at, may_at, byte_at, shut_at, slot_of, spin_at}
 use Rattle.wait_core.specs.Jobs.{spot_of, left_list, left_record, target_after, heeds_after, attached_after, resumed, goes_on}
 
 -- the words, what is at home in the slots, and one view per seat

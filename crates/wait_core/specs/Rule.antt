@@ -20,7 +20,7 @@ use Rattle.wait_core.specs.ListsStand.{ListsStand}
 use Rattle.wait_core.specs.LeftAreFree.{LeftAreFree}
 use Rattle.wait_core.specs.Barriers.{attendance_of, phases_in, CountsParticipants, NoneIsBelow, IdleAreHere, CallsSuit}
 
--- the numbers of backends, of words, and of slots: one for each condition and each barrier
+-- the numbers of backends, of words, and of slots: one for each condition that there may be, and for each barrier
 pub record Sized (z : Size) (count words homes : ℕ) : Type 0 where
   pub procs : (0 < z.procs) × (z.procs ≤ 64)
   pub cvs : z.cvs ≤ most_conditions

@@ -1,5 +1,5 @@
--- What the slots keep: each condition's list, and then each barrier's record.
-use Rattle.std.specs.Prelude.{◌≡◌, ℕ, ◌+◌, List, [], ◌∷◌, length, ⊤}
+-- What the slots keep: conditions' lists, and then barriers' records.
+use Rattle.std.specs.Prelude.{◌≡◌, ℕ, List, [], ◌∷◌, length, ⊤}
 use Rattle.wait_core.specs.Words.{slots_in}
 use Rattle.wait_core.specs.declared.view.Kept.{Kept}
 use Rattle.wait_core.specs.declared.view.Record.{Record}
@@ -18,7 +18,7 @@ abbrev pub AllAsOpened : ℕ → List Kept → Type 0
 AllAsOpened phase [] = ⊤
 AllAsOpened phase (k ∷ slots) = IsAsOpened phase k × AllAsOpened phase slots
 
--- the slots of a new table: one for each condition and each barrier
+-- the slots of a new table: one for each condition that there may be, and for each barrier
 pub record OpeningSlots (z : Size) (phase : ℕ) (slots : List Kept) : Type 0 where
   pub count : length slots ≡ slots_in z
   pub each : AllAsOpened phase slots
