@@ -1,4 +1,4 @@
-use Rattle.std.proofs.Common.{List, [], ◌∷◌, ◌++◌, refl, sym, ap, ◌∙◌, subst, arith}
+use Rattle.std.proofs.Common.{List, [], ◌∷◌, ◌++◌, refl, sym, ap, ◌∙◌, subst}
 use Rattle.wait_core.specs.Seats.{size_of}
 use Rattle.wait_core.specs.declared.step.WaitStep.TheVariants.{Spin}
 use Rattle.wait_core.specs.declared.view.WaitView.{WaitView}

@@ -3,7 +3,7 @@ use Rattle.wait_core.specs.declared.step.Spot.TheVariants.{Cv}
 use Rattle.wait_core.specs.declared.view.Job.TheVariants as job
 use Rattle.wait_core.specs.declared.view.Made.{Made}
 use Rattle.wait_core.specs.declared.view.WaitView.{WaitView}
-use Rattle.wait_core.specs.Machine.{Place, as_kept, outer, spot_for}
+use Rattle.wait_core.specs.Machine.{Place, as_kept, outer}
 use Rattle.wait_core.specs.declared.step.Call.TheVariants as call
 use Rattle.wait_core.specs.Seats.{size_of}
 use Rattle.condition_variable.specs.Visits.{MayWakeNow, after_wake, entering, stands}
