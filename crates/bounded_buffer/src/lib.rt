@@ -2,7 +2,7 @@
 //! finds it empty: an example of a lock and of conditions together.
 #![tactic(auto)]
 
-ghost use Rattle.std.specs.Prelude.{◌≡◌, ◌<◌, ◌≤◌, ◌+◌, ◌↔◌, [], None, Some, IfOk, IsOk};
+ghost use Rattle.std.specs.Prelude.{◌≡◌, ◌<◌, ◌≤◌, IfOk};
 
 #[cfg(test)]
 mod tests;
@@ -61,7 +61,6 @@ pub struct Taken {
 }
 
 impl Buffer {
-    ghost use Rattle.lw_core.specs.Machine.{mode_in};
     ghost use Rattle.bounded_buffer.specs.Backends.{IsFirst, IsHolding, IsIdle, IsIn};
 
     /// An empty buffer for so many backends, and the first of them.

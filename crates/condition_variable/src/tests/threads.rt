@@ -2,8 +2,10 @@
 ghost use Rattle.std.specs.Prelude.{◌≡◌, ◌<◌, [], None, Some};
 
 use super::*;
+use crossbeam_utils::Backoff;
 use latch::set_latch;
 use std::sync::Wait;
+use std::sync::atomic::{AtomicBool, Ordering};
 use std::thread;
 use std::thread::Threads;
 
@@ -14,7 +16,7 @@ enum Role {
     Sleeper,
     // Wakes all on `go`, as soon as all have signalled `done`.
     Broadcaster,
-    // Sets the latches of the sleepers.
+    // Sets the latches of the sleepers at random, until all broadcasts were made.
     Stranger,
 }
 
@@ -26,6 +28,7 @@ struct Worker<'t> {
     role: Role,
     go: CvNo,
     done: CvNo,
+    over: &'t AtomicBool,
     ghost seated: { seat.table_id ≡ table.now.table_id },
     ghost idle: { (seat.view.place ≡ []) × (seat.view.target ≡ None) },
     ghost room: { (go < table.now.cvs) × (done < table.now.cvs) × (8 < table.now.procs) },
@@ -54,6 +57,7 @@ fn sleep_often<R: Wait>(rt: &R, worker: Worker<'_>) -> u32 {
         role: _,
         go,
         done,
+        over: _,
     } = worker;
     let mut wakes = 0;
     prepare_to_sleep(rt, table, &mut seat, go);
@@ -90,6 +94,7 @@ fn broadcast_often<R: Wait>(rt: &R, worker: Worker<'_>) {
         role: _,
         go,
         done,
+        over,
     } = worker;
     prepare_to_sleep(rt, table, &mut seat, done);
     for _ in 0..100u32 {
@@ -98,24 +103,32 @@ fn broadcast_often<R: Wait>(rt: &R, worker: Worker<'_>) {
         prepare_to_sleep(rt, table, &mut seat, done);
     }
     wait_for_all(rt, table, &mut seat, done);
+    over.store(true, Ordering::SeqCst);
 }
 
-// Sets the latches of the backends 1 to 8 at random.
-fn set_around(worker: Worker<'_>) {
+// Sets the latches of the backends 1 to 8 at random, until it is over.
+fn set_around<R: Wait>(rt: &R, worker: Worker<'_>) {
     let Worker {
         table,
         mut seat,
         role: _,
         go: _,
         done: _,
+        over,
     } = worker;
+    let backoff = Backoff::new();
     let mut state = 1;
-    for _ in 0..20_000u32 {
+    for _ in rt.forever() {
+        if over.load(Ordering::SeqCst) {
+            return;
+        }
         state = u32::wrapping_add(u32::wrapping_mul(state, 1_664_525), 1_013_904_223);
         if let Some(target) = ProcNo::new(1 + (state >> 29)) {
             set_latch(table, &mut seat, target);
         }
+        backoff.snooze();
     }
+    unreachable!()
 }
 
 // How often the worker was signalled, if it is a sleeper.
@@ -127,7 +140,7 @@ fn work<R: Wait>(rt: &R, worker: Worker<'_>) -> u32 {
             0
         }
         Role::Stranger => {
-            set_around(worker);
+            set_around(rt, worker);
             0
         }
     }
@@ -140,6 +153,7 @@ fn each_broadcast_wakes_each_sleeper_once(rt: HostRuntime) -> Result<(), Fail> {
     };
     let go = CvNo::new(0).ok_or("a condition")?;
     let done = CvNo::new(1).ok_or("a condition")?;
+    let over = AtomicBool::new(false);
     let mut workers = Vec::new(rt.alloc());
     for number in 0..9u32 {
         workers.push(Worker {
@@ -152,6 +166,7 @@ fn each_broadcast_wakes_each_sleeper_once(rt: HostRuntime) -> Result<(), Fail> {
             },
             go,
             done,
+            over: &over,
         })?;
     }
     workers.push(Worker {
@@ -160,6 +175,7 @@ fn each_broadcast_wakes_each_sleeper_once(rt: HostRuntime) -> Result<(), Fail> {
         role: Role::Broadcaster,
         go,
         done,
+        over: &over,
     })?;
     let wakes = thread::map_vec(&rt, workers, &|worker| work(&rt, worker))?;
     let expected = [100, 100, 100, 100, 100, 100, 100, 100, 0, 0];
