@@ -75,11 +75,6 @@ some_is f g e = cc
 none_isnt : (f : ℕ) → None ≡ Some f → ⊥
 none_isnt f e = cc
 
--- a slot of a condition is that of no barrier, and no two barriers have one
-condition_apart : (c b most : ℕ) → c < most → most ≤ most_conditions → slot_of (Cv c) ≢ slot_of (Bar b)
-condition_apart c b most below few e = omega arith
-
--- what the client's law owes to barriers: a seat that attaches keeps it, and a quiet one that leaves
 module _ {C : Type 0} (means : Meanings C) where
   pub record Owes : Type 0 where
     pub enter : (words : List ℕ) (views : List (PartyView C)) (phases : List ℕ) (id : ℕ) (v w : PartyView C) (bar : ℕ) → means.holds words views phases → IsEnter views phases id v w bar → means.enters v bar → means.holds words (set views id w) phases

@@ -1,4 +1,4 @@
--- What a client may suppose of barriers, once a view is changed, a seat drawn or one joined. No phase passes here, and nobody attaches or is elected.
+-- What a client may suppose of barriers, once a seat attached or left, or a seat was drawn or one joined. No phase passes here, and nobody is elected.
 use Rattle.std.proofs.Common.{◌≡◌, ◌≢◌, ◌⊎◌, ℕ, zero, suc, ◌<◌, ◌≤◌, ◌==◌, cond, List, [], ◌∷◌, ◌++◌, length, set, Option, None, Some, refl, sym, ap, ◌∙◌, subst, ⊎_elim, inl, inr, arith}
 use Rattle.std.proofs.lemmas.Bool.Decides.{nat_tests}
 use mathlib.Core.Option as maybe
@@ -37,13 +37,6 @@ module _ {C : Type 0} where
     inside = λ i u e b ph a. let x = t.attached i u e b ph a in h.inside x.0 x.1 x.2 b ph x.3;
     past = λ i u e b ph a. let x = t.elected i u e b ph a in h.past x.0 x.1 x.2 b ph x.3;
     one = λ i k u w e f b ph a c. let x = t.elected i u e b ph a in let y = t.elected k w f b ph c in x.4 ∙ (ap to (h.one x.0 y.0 x.1 y.1 x.2 y.2 b ph x.3 y.3) ∙ sym y.4);
-  }
-
-  -- a view is changed, and is attached and elected as before
-  pub barriers_set : (views : List (PartyView C)) (phases : List ℕ) (id : ℕ) (v w : PartyView C) → get_elem? views id ≡ maybe.some v → Barriers views phases → w.attached ≡ v.attached → w.elections ≡ v.elections → Barriers (set views id w) phases
-  barriers_set views phases id v w at h same won = traced (λ k. k) views (set views id w) phases h record {
-    attached = λ i u e b ph a. ⊎_elim (λ (t : (i ≡ id) × (w ≡ u)). (id, v, at, ap (λ (l : List (ℕ × ℕ)). phase_of l b) (sym same ∙ ap (λ (x : PartyView C). x.attached) t.1) ∙ a)) (λ (t : (i ≢ id) × (get_elem? views i ≡ maybe.some u)). (i, u, t.1, a)) (at_set views id i w u e);
-    elected = λ i u e b ph a. ⊎_elim (λ (t : (i ≡ id) × (w ≡ u)). (id, v, at, subst (λ (l : List (ℕ × ℕ)). Elected l b ph) (sym (sym won ∙ ap (λ (x : PartyView C). x.elections) t.1)) a, t.0)) (λ (t : (i ≢ id) × (get_elem? views i ≡ maybe.some u)). (i, u, t.1, a, refl)) (at_set views id i w u e);
   }
 
   -- a view is changed, and is elected as before; of each barrier that it is attached to it knows the phase
