@@ -25,7 +25,7 @@ use Rattle.seat_roster.specs.Totals.{total}
 use Rattle.seat_roster.specs.Roster.{one_if}
 use Rattle.seat_roster.proofs.Totals.{total_set, total_at, total_map, total_gap}
 use Rattle.seat_roster.proofs.Stretches.{unseen, each_set}
-use Rattle.wait_core.specs.Words.{most_conditions, slot_of, slots_in, spin_at, client_base, client_words}
+use Rattle.wait_core.specs.Words.{slot_of, slots_in, spin_at, client_base, client_words}
 use Rattle.wait_core.specs.Jobs.{spot_of, left_record, away_from, attached_after}
 use Rattle.wait_core.specs.Machine.{WaitState, Place, top, taken, number_of, word_of, becomes, left_at, home_in, home_of, slot_number, act_of, carried, freed_attached, attached_then, next_with, IsSpot, MayFree, MayTake, Permits}
 use Rattle.wait_core.specs.Meanings.{Meanings}
