@@ -1,68 +1,15 @@
 -- Laws of lists of waiters, from an index on.
-use Rattle.std.proofs.Common.{◌≡◌, ◌∙◌, ℕ, zero, suc, ◌+◌, ◌<◌, ◌++◌, Bool, true, false, cond, eqb, eq-eqb, List, [], ◌∷◌, length, drop, get_or, refl, sym, ap, add-one, drop-cons, length-drop, nat_lt, ◌-◌, ◌≤◌, arith}
-use Rattle.std.proofs.lemmas.Bool.{ne_eqb}
+use Rattle.std.proofs.Common.{◌≡◌, ◌∙◌, ℕ, zero, suc, ◌+◌, ◌<◌, ◌++◌, Bool, true, false, cond, eqb, List, [], ◌∷◌, length, drop, get_or, refl, sym, ap, add-one, drop-cons, length-drop, nat_lt, ◌-◌, ◌≤◌, arith}
 use Rattle.std.proofs.lemmas.Bool.Decides.{nat_tests}
 use Rattle.lw_core.specs.declared.view.Waiter.{Waiter}
-use Rattle.lw_core.specs.declared.view.Want.{Want}
 use Rattle.lw_core.specs.declared.view.Want.TheVariants.{Shared, Exclusive, UntilFree}
-use Rattle.lw_core.specs.WaitLists.{AllBelow, has_locker, joined_by, kept_after, lockers_from, same_want, taken_after, until_free_from, without}
+use Rattle.lw_core.specs.WaitLists.{AllBelow, has_locker, joined_by, kept_after, lockers_from, same_want, without}
 
 abbrev pub no_one : Waiter
 no_one = record { proc = 0; want = Shared }
 
 pub drop-at : {A : Type 0} (xs : List A) (i : ℕ) (d : A) → i < length xs → drop i xs ≡ get_or xs i d ∷ drop (i + 1) xs
 drop-at xs i d inside = rw (add-one, drop-cons xs i d inside) refl
-
-pub without-self : (p : ℕ) (ws : List Waiter) (i : ℕ) → i < length ws → (get_or ws i no_one).proc ≡ p → without p (drop i ws) ≡ without p (drop (i + 1) ws)
-without-self p ws i inside is = rw (drop-at ws i no_one inside, eq-eqb (get_or ws i no_one).proc p is) refl
-
-pub without-other : (p : ℕ) (ws : List Waiter) (i : ℕ) → i < length ws → ((get_or ws i no_one).proc ≡ p → ⊥) → without p (drop i ws) ≡ get_or ws i no_one ∷ without p (drop (i + 1) ws)
-without-other p ws i inside apart = rw (drop-at ws i no_one inside, ne_eqb (get_or ws i no_one).proc p apart) refl
-
-pub taken-last : (ws : List Waiter) (i : ℕ) → i < length ws → (get_or ws i no_one).want ≡ Exclusive → taken_after false (drop i ws) ≡ get_or ws i no_one ∷ []
-taken-last ws i inside is = rw (drop-at ws i no_one inside, is) refl
-
-pub taken-passed : (ws : List Waiter) (i : ℕ) → i < length ws → (get_or ws i no_one).want ≡ Exclusive → taken_after true (drop i ws) ≡ taken_after true (drop (i + 1) ws)
-taken-passed ws i inside is = rw (drop-at ws i no_one inside, is) refl
-
-pub taken-shared : (b : Bool) (ws : List Waiter) (i : ℕ) → i < length ws → (get_or ws i no_one).want ≡ Shared → taken_after b (drop i ws) ≡ get_or ws i no_one ∷ taken_after true (drop (i + 1) ws)
-taken-shared b ws i inside is = rw (drop-at ws i no_one inside, is) refl
-
-pub taken-until : (b : Bool) (ws : List Waiter) (i : ℕ) → i < length ws → (get_or ws i no_one).want ≡ UntilFree → taken_after b (drop i ws) ≡ get_or ws i no_one ∷ taken_after b (drop (i + 1) ws)
-taken-until b ws i inside is = rw (drop-at ws i no_one inside, is) refl
-
-pub kept-rest : (ws : List Waiter) (i : ℕ) → i < length ws → (get_or ws i no_one).want ≡ Exclusive → kept_after false (drop i ws) ≡ drop (i + 1) ws
-kept-rest ws i inside is = rw (drop-at ws i no_one inside, is) refl
-
-pub kept-passed : (ws : List Waiter) (i : ℕ) → i < length ws → (get_or ws i no_one).want ≡ Exclusive → kept_after true (drop i ws) ≡ get_or ws i no_one ∷ kept_after true (drop (i + 1) ws)
-kept-passed ws i inside is = rw (drop-at ws i no_one inside, is) refl
-
-pub kept-shared : (b : Bool) (ws : List Waiter) (i : ℕ) → i < length ws → (get_or ws i no_one).want ≡ Shared → kept_after b (drop i ws) ≡ kept_after true (drop (i + 1) ws)
-kept-shared b ws i inside is = rw (drop-at ws i no_one inside, is) refl
-
-pub kept-until : (b : Bool) (ws : List Waiter) (i : ℕ) → i < length ws → (get_or ws i no_one).want ≡ UntilFree → kept_after b (drop i ws) ≡ kept_after b (drop (i + 1) ws)
-kept-until b ws i inside is = rw (drop-at ws i no_one inside, is) refl
-
--- the heads of a list, one more
-pub heads-more : (ws : List Waiter) (i : ℕ) → i < length ws → (get_or ws i no_one).want ≡ UntilFree → until_free_from (drop i ws) ≡ get_or ws i no_one ∷ until_free_from (drop (i + 1) ws)
-heads-more ws i inside is = rw (drop-at ws i no_one inside, is) refl
-
-pub lockers-more : (ws : List Waiter) (i : ℕ) → i < length ws → (get_or ws i no_one).want ≡ UntilFree → lockers_from (drop i ws) ≡ lockers_from (drop (i + 1) ws)
-lockers-more ws i inside is = rw (drop-at ws i no_one inside, is) refl
-
-heads-end : (w : Waiter) (ws : List Waiter) → (w.want ≡ UntilFree → ⊥) → same_want w.want UntilFree ≡ false
-heads-end w ws apart = by_want w.want apart
-  where
-    by_want : (v : Want) → (v ≡ UntilFree → ⊥) → same_want v UntilFree ≡ false
-    by_want Shared h = refl
-    by_want Exclusive h = refl
-    by_want UntilFree h = absurd (h refl)
-
-pub heads-none : (ws : List Waiter) (i : ℕ) → i < length ws → ((get_or ws i no_one).want ≡ UntilFree → ⊥) → until_free_from (drop i ws) ≡ []
-heads-none ws i inside apart = rw (drop-at ws i no_one inside, heads-end (get_or ws i no_one) ws apart) refl
-
-pub lockers-all : (ws : List Waiter) (i : ℕ) → i < length ws → ((get_or ws i no_one).want ≡ UntilFree → ⊥) → lockers_from (drop i ws) ≡ drop i ws
-lockers-all ws i inside apart = rw (drop-at ws i no_one inside, heads-end (get_or ws i no_one) ws apart) refl
 
 -- ALL BELOW the number of backends
 below-append : (procs : ℕ) (ws us : List Waiter) → AllBelow procs ws → AllBelow procs us → AllBelow procs (ws ++ us)

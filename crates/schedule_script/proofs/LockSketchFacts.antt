@@ -27,6 +27,7 @@ use Rattle.schedule_script.specs.Lines.{Numbered}
 use Rattle.schedule_script.specs.Play.{played}
 use Rattle.schedule_script.specs.ScriptText.{answer_by, lock_play, opening_moment}
 use Rattle.schedule_script.proofs.Likeness.{played_alike}
+use Rattle.schedule_script.proofs.LockFacts.{map-set}
 
 abbrev pub mode_of : Hold → Option Mode
 mode_of h = h.mode
@@ -36,11 +37,6 @@ stand_of x = record { ask = x.ask; place = x.view.place; modes = map mode_of x.v
 
 abbrev pub sketch_of : Script → Sketch
 sketch_of s = record { size = s.size; words = s.words; homes = s.homes; stands = map stand_of s.seats }
-
-map-set : {A B : Type 0} (f : A → B) (xs : List A) (i : ℕ) (x : A) → map f (set xs i x) ≡ set (map f xs) i (f x)
-map-set f [] i x = refl
-map-set f (y ∷ ys) zero x = refl
-map-set {B = B} f (y ∷ ys) (suc i) x = ap (λ (t : List B). f y ∷ t) (map-set f ys i x)
 
 -- a hold with the same mode leaves the modes as they were
 same-modes : (hs : List Hold) (i : ℕ) (h : Hold) → h.mode ≡ (get_or hs i not_held).mode → map mode_of (set hs i h) ≡ map mode_of hs
