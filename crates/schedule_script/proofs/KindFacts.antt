@@ -1,5 +1,5 @@
 -- Laws of kinds, and of what is printed of them and of words.
-use Rattle.std.proofs.Common.{◌≡◌, ◌∙◌, ℕ, zero, suc, inl, inr, lit<, ◌-◌, ◌+◌, ◌++◌, List, [], ◌∷◌, length, drop, get_or, cond, codes, append_assoc, add-one, drop-cons, ◌/◌, ◌^◌, ◌<◌, ◌≤◌, bit_and, eqb, true, false, eq-eqb, refl, sym, ap, arith}
+use Rattle.std.proofs.Common.{◌≡◌, ◌∙◌, ℕ, zero, suc, inl, inr, lit<, ◌-◌, ◌+◌, ◌++◌, List, [], ◌∷◌, length, drop, get_or, cond, codes, append_assoc, add-one, drop-cons, ◌/◌, ◌^◌, ◌<◌, ◌≤◌, bit_and, eqb, true, false, eq-eqb, refl, sym, arith}
 use Rattle.std.specs.Int.{bit_at}
 use Rattle.std.specs.Prelude.{decimal}
 use Rattle.std.proofs.lemmas.List.{drop_all}

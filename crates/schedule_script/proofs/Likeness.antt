@@ -1,9 +1,9 @@
 -- Two machines that a map ties, step by step, play each script alike.
-use Rattle.std.proofs.Common.{◌≡◌, ◌∙◌, ℕ, zero, suc, ◌+◌, ◌++◌, nat_lt, Bool, true, false, cond, List, [], ◌∷◌, Option, None, Some, refl, sym, ap}
+use Rattle.std.proofs.Common.{◌≡◌, ℕ, zero, suc, ◌+◌, ◌++◌, nat_lt, Bool, true, false, cond, List, [], ◌∷◌, Option, None, Some, refl}
 use Rattle.std.specs.Prelude.{option_map, option_and_then}
 use Rattle.std.specs.Option.{option_map_or}
 use Rattle.schedule_script.specs.Lines.{Numbered, after_word, first_word, number}
-use Rattle.schedule_script.specs.Play.{Bad, Ended, Moment, Outcome, acted, begun, played, repeated, repeats, step_limit, stepped, taken, told}
+use Rattle.schedule_script.specs.Play.{Bad, Moment, Outcome, acted, played, repeated, repeats, step_limit, stepped, taken, told}
 use Rattle.schedule_script.specs.ScriptText.{answer_by}
 
 module _ {A B : Type 0} (h : A → B) where

@@ -1,6 +1,5 @@
 -- Laws of scripts played on a machine.
-use Rattle.std.proofs.Common.{◌≡◌, ℕ, zero, suc, ◌+◌, ◌-◌, ◌<◌, Bool, true, false, List, [], ◌∷◌, Option, None, Some, refl, ap, sym, arith}
-use Rattle.std.specs.Prelude.{option_and_then}
+use Rattle.std.proofs.Common.{◌≡◌, ℕ, zero, suc, ◌-◌, ◌<◌, true, false, List, [], ◌∷◌, Option, None, Some, refl, ap, sym, arith}
 use Rattle.schedule_script.specs.Play.{Bad, ComesTo, Ended, Moment, played, repeated, stepped, taken}
 use Rattle.schedule_script.specs.Lines.{Numbered}
 

@@ -1,5 +1,5 @@
 -- What a step leaves of a sketch.
-use Rattle.std.proofs.Common.{◌≡◌, ◌∙◌, ℕ, ◌+◌, ◌-◌, ◌*◌, ◌^◌, ◌<◌, ◌≤◌, nat_lt, bit_and, eqb, Bool, true, false, cond, List, [], ◌∷◌, map, zero, suc, length, set, get_or, Option, None, Some, Result, refl, sym, ap, subst, inl, inr, arith, get_or-set_same, get_or-set_other}
+use Rattle.std.proofs.Common.{◌≡◌, ◌∙◌, ℕ, ◌+◌, ◌-◌, ◌*◌, ◌^◌, ◌<◌, ◌≤◌, nat_lt, bit_and, eqb, Bool, true, false, cond, List, [], ◌∷◌, map, zero, suc, set, get_or, Option, None, Some, Result, refl, sym, ap, subst, inl, inr, arith, get_or-set_same, get_or-set_other}
 use Rattle.std.specs.Prelude.{OnOk, Ok, Err, slice_index}
 use Rattle.std.proofs.lemmas.Bool.{cases_Bool}
 use Rattle.std.proofs.lemmas.List.{length-set}
@@ -11,14 +11,13 @@ use native.Mathlib.Decide.{ℕ_discrete}
 use Rattle.signal_core.specs.declared.step.SigStep.{SigStep}
 use Rattle.signal_core.specs.declared.step.SigStep.TheVariants.{Hload, Hadd, Mor, Mswap, Gstore, Gload, Pstore, Pload, Pend, Pswap}
 use Rattle.signal_core.specs.declared.view.About.{About}
-use Rattle.signal_core.specs.declared.view.Frame.{Frame}
 use Rattle.signal_core.specs.declared.view.Frame.TheVariants.{Reading, Opening, Entering, Leaving, Posting, Numbering, Telling, Prodding, Comparing, Heading, Swapping, Taking, Keeping, Reminding}
 use Rattle.signal_core.specs.Words.{opened, word_count, worn}
 use Rattle.signal_core.specs.Machine.{Place, becomes, place_after, told, word_of}
 use Rattle.schedule_script.specs.declared.signals.Ask.{Ask}
 use Rattle.schedule_script.specs.declared.signals.Ask.TheVariants.{Join, Leave, Emit, Absorb}
 use Rattle.schedule_script.specs.declared.signals.Backend.{Backend}
-use Rattle.schedule_script.specs.Signals.{failing_of, lowest, step_at, still}
+use Rattle.schedule_script.specs.Signals.{failing_of, step_at, still}
 use Rattle.schedule_script.specs.SignalSketch.{AskFits, BackendFits, Fits, PlaceFits, Sketch, StepFits, idle, opening_sketch, turn, went}
 use Rattle.schedule_script.specs.SignalSketch as sketch
 use Rattle.schedule_script.proofs.KindFacts.{lowest-below}

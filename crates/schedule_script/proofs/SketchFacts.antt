@@ -1,6 +1,6 @@
 -- A sketch goes on as the script that it is of.
-use Rattle.std.proofs.Common.{◌≡◌, ◌∙◌, ℕ, zero, suc, ◌+◌, ◌++◌, nat_lt, Bool, true, false, cond, List, [], ◌∷◌, map, set, get_or, Option, None, Some, refl, sym, ap}
-use Rattle.std.specs.Prelude.{option_map, option_and_then, fold, slice_index}
+use Rattle.std.proofs.Common.{◌≡◌, ◌∙◌, ℕ, zero, suc, ◌+◌, nat_lt, Bool, true, false, cond, List, [], ◌∷◌, map, set, Option, None, Some, refl, sym, ap}
+use Rattle.std.specs.Prelude.{option_map, option_and_then, slice_index}
 use Rattle.std.proofs.Math.ListN.{get_or-map}
 use Rattle.std.proofs.lemmas.List.Sums.{fold-append}
 use Rattle.signal_core.specs.declared.step.SigStep.{SigStep}
@@ -8,10 +8,10 @@ use Rattle.signal_core.specs.declared.step.SigStep.TheVariants.{Hload, Hadd, Mor
 use Rattle.signal_core.specs.declared.view.About.{About}
 use Rattle.signal_core.specs.declared.view.Emission.{Emission}
 use Rattle.signal_core.specs.declared.view.Frame.TheVariants.{Reading, Opening, Entering, Leaving, Posting, Numbering, Telling, Prodding, Comparing, Heading, Swapping, Taking, Keeping, Reminding}
-use Rattle.signal_core.specs.Machine.{Place, word_of, becomes, emissions_after, next, place_after, slot_after}
+use Rattle.signal_core.specs.Machine.{Place, word_of, becomes, emissions_after}
 use Rattle.schedule_script.specs.declared.signals.Ask.{Ask}
 use Rattle.schedule_script.specs.declared.signals.Backend.{Backend}
-use Rattle.schedule_script.specs.Signals.{ask_of, emitted_after, may_begin, step_at, still}
+use Rattle.schedule_script.specs.Signals.{ask_of, emitted_after, may_begin, step_at}
 use Rattle.schedule_script.specs.SignalScripts.{Script, Seat, last_emitted, nobody, seat_at}
 use Rattle.schedule_script.specs.SignalScripts as script
 use Rattle.schedule_script.specs.SignalSketch.{Sketch, backend_at, begun_with, idle}

@@ -5,5 +5,9 @@ pub mod Moments
 pub mod Signals
 pub mod SignalScripts
 pub mod SignalSketch
+pub mod Texts
+pub mod Locks
+pub mod LockScripts
+pub mod LockSketch
 pub mod ScriptText
 pub mod Replays

@@ -1,6 +1,6 @@
 -- The lines of a script, and the words of a line.
-use Rattle.std.specs.Prelude.{ℕ, ◌+◌, ◌==◌, ◌&&◌, ◌||◌, nat_lt, nat_le, Bool, cond, List, [], ◌∷◌, length, drop, slice_index, position, Option, None, Some, option_map, if◌then◌else◌}
-use Rattle.std.specs.List.{before_first, list_all, position_or_len}
+use Rattle.std.specs.Prelude.{ℕ, ◌+◌, ◌==◌, ◌&&◌, ◌||◌, nat_lt, Bool, cond, List, [], ◌∷◌, length, drop, slice_index, position, Option, option_map, if◌then◌else◌}
+use Rattle.std.specs.List.{before_first, list_all}
 use Rattle.decimal_word.specs.Numbers.{number_of}
 
 -- LINES end with a line feed; the last end may be missing

@@ -1,5 +1,5 @@
 -- WHAT A SCRIPT DOES on the machine of signals: the machine's own states, with the call that each backend is in.
-use Rattle.std.specs.Prelude.{ℕ, ◌+◌, ◌-◌, ◌++◌, ◌==◌, nat_lt, fold, cond, List, [], ◌∷◌, drop, map, slice_index, slice_index_or, slice_set, codes, Option, None, Some, option_map, option_and_then, if◌then◌else◌, ⊤}
+use Rattle.std.specs.Prelude.{ℕ, ◌-◌, ◌++◌, ◌==◌, nat_lt, fold, cond, List, [], ◌∷◌, drop, map, slice_index, slice_index_or, slice_set, codes, Option, None, Some, option_map, option_and_then, if◌then◌else◌}
 use Rattle.std.specs.List.{range_with_len}
 use Rattle.std.specs.Str.{bytes_eq}
 use Rattle.decimal_word.specs.Numbers.{number_of}

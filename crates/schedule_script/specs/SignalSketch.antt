@@ -1,9 +1,9 @@
 -- What a replay keeps of a signal machine: the words, and of each backend the call that it is in, its place, its slot and the number of its last emission.
-use Rattle.std.specs.Prelude.{◌≡◌, ◌⊎◌, ◌≤◌, ◌<◌, ℕ, ◌+◌, ◌++◌, ◌==◌, nat_lt, Bool, List, [], ◌∷◌, length, slice_index, slice_index_or, slice_set, map, drop, codes, decimal, Option, None, Some, option_map, option_and_then, ⊤, if◌then◌else◌}
+use Rattle.std.specs.Prelude.{◌≡◌, ◌⊎◌, ◌≤◌, ◌<◌, ℕ, ◌+◌, ◌++◌, nat_lt, List, length, slice_index, slice_index_or, slice_set, map, drop, codes, Option, None, Some, option_map, option_and_then, ⊤, if◌then◌else◌}
 use Rattle.std.specs.List.{range_with_len}
 use Rattle.signal_core.specs.declared.view.About.{About}
 use Rattle.signal_core.specs.declared.view.Frame.{Frame}
-use Rattle.signal_core.specs.declared.view.Frame.TheVariants.{Posting, Numbering, Telling, Prodding, Keeping, Reminding}
+use Rattle.signal_core.specs.declared.view.Frame.TheVariants.{Posting, Telling, Prodding, Keeping, Reminding}
 use Rattle.signal_core.specs.declared.step.SigStep.{SigStep}
 use Rattle.signal_core.specs.declared.step.SigStep.TheVariants.{Mor, Gload, Pload, Pend}
 use Rattle.signal_core.specs.Words.{header_at, word_count, worn}

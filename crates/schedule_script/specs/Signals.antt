@@ -1,5 +1,5 @@
 -- A script on the signal machine: the step that a backend's place and call name, and what is printed of it.
-use Rattle.std.specs.Prelude.{ℕ, zero, suc, ◌+◌, ◌-◌, ◌*◌, ◌/◌, ◌%◌, ◌^◌, ◌==◌, ◌++◌, nat_lt, bit_and, Bool, true, false, is_none, is_some, List, [], ◌∷◌, length, codes, decimal, slice_index, slice_index_or, slice_set, Option, None, Some, option_map, option_and_then, if◌then◌else◌}
+use Rattle.std.specs.Prelude.{ℕ, zero, suc, ◌+◌, ◌-◌, ◌/◌, ◌%◌, ◌==◌, ◌++◌, bit_and, Bool, true, is_none, is_some, List, [], ◌∷◌, codes, decimal, Option, None, Some, option_map, if◌then◌else◌}
 use Rattle.std.specs.Int.{bit_at}
 use Rattle.std.specs.Str.{bytes_eq}
 use Rattle.decimal_word.specs.Numbers.{number_of}
@@ -11,10 +11,9 @@ use Rattle.signal_core.specs.declared.view.Frame.TheVariants.{Reading, Opening, 
 use Rattle.signal_core.specs.declared.view.About.{About}
 use Rattle.signal_core.specs.declared.view.Slot.{Slot}
 use Rattle.signal_core.specs.Words.{gone, opened}
-use Rattle.signal_core.specs.Machine.{Place, word_of, becomes, place_after, slot_after, kinds_below}
+use Rattle.signal_core.specs.Machine.{Place, kinds_below}
 use Rattle.schedule_script.specs.declared.signals.Ask.{Ask}
 use Rattle.schedule_script.specs.declared.signals.Ask.TheVariants.{Join, Leave, Emit, Absorb}
-use Rattle.schedule_script.specs.declared.signals.Backend.{Backend}
 use Rattle.schedule_script.specs.Lines.{first_word, after_word, number}
 
 -- THE CALLS, by their words

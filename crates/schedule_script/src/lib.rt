@@ -3,10 +3,12 @@
 #![tactic(auto)]
 
 mod lines;
+mod locks;
 mod machine;
 mod play;
 mod script;
 mod signals;
+mod texts;
 
 pub use play::ScriptFault;
 pub use script::replay;

@@ -4,11 +4,15 @@ ghost use Rattle.signal_core.specs.Words.{worn};
 ghost use Rattle.schedule_script.specs.Replays.{Replays};
 ghost use Rattle.schedule_script.specs.ScriptText.{script_answer};
 ghost use Rattle.schedule_script.specs.SignalScripts.{about_of, signal_header};
+ghost use Rattle.schedule_script.specs.LockScripts.{lock_header, size_of};
+ghost use Rattle.schedule_script.specs.LockSketch.{SizeFits};
 
 use crate::lines::{Lines, cut_word, is_word};
+use crate::locks::Locks;
 use crate::play::{Play, ScriptFault};
 use crate::signals::Signals;
 use decimal_word::number_of;
+use lw_core::Size;
 use signal_core::About;
 use std::alloc::Global;
 
@@ -55,6 +59,42 @@ fn signal_header(line: &[u8]) -> Option<About>
     }
 }
 
+// What the words after `lock` open.
+fn size_of(procs: &[u8], locks: &[u8]) -> Option<Size>
+    ensures size { result ≡ size_of procs.now locks.now }
+    ensures fits { IfSome result (λ z. SizeFits z) }
+{
+    let Some(procs) = number_of(procs, 1, 64) else {
+        return None;
+    };
+    match number_of(locks, 1, 200) {
+        Some(locks) => Some(Size {
+            locks: locks as u32,
+            procs: procs as u32,
+        }),
+        None => None,
+    }
+}
+
+// What a script's first line opens, where it is one of the machine of locks.
+fn lock_header(line: &[u8]) -> Option<Size>
+    ensures size { result ≡ lock_header line.now }
+    ensures fits { IfSome result (λ z. SizeFits z) }
+{
+    let cut = cut_word(line);
+    if !is_word(cut.word, "lock") {
+        return None;
+    }
+    let Some(more) = cut.after else {
+        return None;
+    };
+    let arguments = cut_word(more);
+    match arguments.after {
+        Some(locks) => size_of(arguments.word, locks),
+        None => None,
+    }
+}
+
 /// Plays a script: the text of its steps, its answers and what stands at the end, or its first line
 /// that isn't in the grammar or isn't enabled.
 pub fn replay(alloc: Global, script: &[u8]) -> Result<Vec<u8>, ScriptFault>
@@ -67,13 +107,21 @@ pub fn replay(alloc: Global, script: &[u8]) -> Result<Vec<u8>, ScriptFault>
     let Some(header) = lines.next_line() else {
         return Err(ScriptFault::Bad { line: lines.number });
     };
-    let Some(about) = signal_header(header.text) else {
+    if let Some(about) = signal_header(header.text) {
+        let play = Play {
+            machine: Signals::new(alloc, about)?,
+            made: 0,
+            out: Vec::new(alloc),
+        };
+        return play.play(lines);
+    }
+    let Some(size) = lock_header(header.text) else {
         return Err(ScriptFault::Bad {
             line: header.number,
         });
     };
     let play = Play {
-        machine: Signals::new(alloc, about)?,
+        machine: Locks::new(alloc, size)?,
         made: 0,
         out: Vec::new(alloc),
     };

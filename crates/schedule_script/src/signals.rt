@@ -13,6 +13,7 @@ mod steps;
 mod texts;
 
 use crate::machine::Machine;
+use crate::texts::push;
 use calls::{ask_of, may_begin};
 use places::{becomes, emitted_after, place_after, slot_after};
 use proc_table::ProcNo;
@@ -20,7 +21,7 @@ use signal_core::{About, Frame, SigStep, Slot};
 use std::alloc::{AllocError, Global};
 use std::marker::Model;
 use steps::step_at;
-use texts::{opened, push, push_changed, push_turn};
+use texts::{opened, push_changed, push_turn};
 
 /// A call of a script on signals.
 #[derive(Clone, Copy)]

@@ -25,6 +25,50 @@ const WORN_GENERATION: &[u8] = b"signal 1 4611686018427387904\n0 emit 0\n0\n";
 const WORN_GENERATION_TEXT: &[u8] =
     b"0 hload G 4611686018427387904\n0 = worn 4611686018427387904\nfinal\n";
 
+// The last release wakes the waiter.
+const LAST_RELEASE_WAKES: &[u8] =
+    b"lock 3 1\n0 acquire 0 S\n0 x2\n1 acquire 0 S\n1 x2\n2 acquire 0 X\n2 x9\n0 release 0\n0\n1 release 0\n1 x7\n2 x6\n";
+
+const LAST_RELEASE_WAKES_TEXT: &[u8] =
+    b"0 load L0 20000000\n0 grant L0 20000001\n0 = got\n1 load L0 20000001\n1 grant L0 20000002\n1 = got\n2 load L0 20000002\n2 refuse L0 20000002\n2 lock L0 30000002\n2 flag L0 70000002\n2 wstore P2.waiting 1\n2 unlock L0 60000002\n2 load L0 60000002\n2 refuse L0 60000002\n2 look P2.sem 0\n0 sub L0 60000001\n0 = done\n1 sub L0 60000000\n1 lock L0 70000000\n1 wstore P2.waiting 2\n1 load L0 70000000\n1 wake L0 00000000\n1 wstore P2.waiting 0\n1 post P2.sem 1\n1 = done\n2 look P2.sem 1\n2 down P2.sem 0\n2 wload P2.waiting 0\n2 ok L0 20000000\n2 load L0 20000000\n2 grant L0 21000000\n2 = got waited\nfinal\nL0 21000000\n";
+
+// An exchange that finds another word is made again.
+const RETRY: &[u8] = b"lock 2 1\n0 acquire 0 S\n0\n1 acquire 0 S\n1 x2\n0 x2\n";
+
+const RETRY_TEXT: &[u8] =
+    b"0 load L0 20000000\n1 load L0 20000000\n1 grant L0 20000001\n1 = got\n0 retry L0 20000001\n0 grant L0 20000002\n0 = got\nfinal\nL0 20000002\n";
+
+// Two surplus counts are given back.
+const SURPLUS: &[u8] =
+    b"lock 2 1\n1 acquire 0 X\n1 x2\n1 poke 0\n1\n1 poke 0\n1\n0 acquire 0 X\n0 x15\n1 release 0\n1 x7\n0 x8";
+
+const SURPLUS_SHOWN: &[u8] =
+    b"1 = got\n1 = done\n1 = done\n1 = done\n0 = got waited\nfinal\nL0 21000000\nP0.sem 2\n";
+
+// A change of the variable wakes.
+const CHANGE: &[u8] = b"lock 2 1\n0 acquire 0 X\n0 x2\n1 varwait 0 0\n1 x14\n0 var 0 7\n0 x6\n1 x7";
+
+const CHANGE_SHOWN: &[u8] = b"0 = got\n0 = done\n1 = changed 7\nfinal\nL0 61000000\nL0.var 7\n";
+
+// Shared waiters pass an exclusive one.
+const PASSING: &[u8] =
+    b"lock 4 1\n0 acquire 0 X\n0 x2\n1 acquire 0 S\n1 x9\n2 acquire 0 X\n2 x9\n3 acquire 0 S\n3 x9\n0 release 0\n0 x10";
+
+const PASSING_SHOWN: &[u8] =
+    b"0 = got\n0 = done\nfinal\nL0 40000000\nP1.sem 1\nP2.waiting 1\nP3.sem 1\nlist L0 2X\n";
+
+// A list in hand isn't at home.
+const IN_HAND: &[u8] = b"lock 2 1\n0 acquire 0 X\n0 x2\n1 acquire 0 X\n1 x8\n0 release 0\n0 x2";
+
+const IN_HAND_SHOWN: &[u8] = b"0 = got\nfinal\nL0 70000000\nP1.waiting 1\n";
+
+// A refusal, guarded words, a freed lock and a surplus.
+const CALLS: &[u8] =
+    b"lock 3 1\n0 acquire 0 X\n0 x2\n1 try 0 S\n1 x2\n0 write 0 2 7\n0\n0 read 0 2\n0\n1 orwait 0 X\n1 x9\n2 poke 1\n2\n1 x3\n0 relvar 0 5\n0 x10\n1 x4\n1 down\n1 x2\n";
+
+const CALLS_SHOWN: &[u8] =
+    b"0 = got\n1 = held 21000000\n0 = done\n0 = value 7\n2 = done\n0 = done\n1 = freed 61000000\n1 = done\nfinal\nL0.var 5\nL0.g2 7\n";
+
 // Whether a line stands for an answer.
 fn is_answer(line: &[u8]) -> bool {
     line.len() > 4 && (line[2] == b'=' || line[3] == b'=')
@@ -77,6 +121,35 @@ fn scripts_have_their_texts(rt: HostRuntime) -> Result<(), Fail> {
 }
 
 #[test]
+fn lock_scripts_have_their_texts(rt: HostRuntime) -> Result<(), Fail> {
+    let cases = [
+        (LAST_RELEASE_WAKES, LAST_RELEASE_WAKES_TEXT),
+        (RETRY, RETRY_TEXT),
+    ];
+    for (script, text) in cases {
+        assert_eq!(rt; text_of(&rt, rt.alloc(), script).as_slice(), text);
+    }
+    Ok(())
+}
+
+#[test]
+fn lock_scripts_answer_and_end(rt: HostRuntime) -> Result<(), Fail> {
+    let cases = [
+        (SURPLUS, SURPLUS_SHOWN),
+        (CHANGE, CHANGE_SHOWN),
+        (PASSING, PASSING_SHOWN),
+        (IN_HAND, IN_HAND_SHOWN),
+        (CALLS, CALLS_SHOWN),
+    ];
+    for (script, end) in cases {
+        let text = text_of(&rt, rt.alloc(), script);
+        let lines = shown(rt.alloc(), text.as_slice())?;
+        assert_eq!(rt; lines.as_slice(), end);
+    }
+    Ok(())
+}
+
+#[test]
 fn older_then_newer_then_kept(rt: HostRuntime) -> Result<(), Fail> {
     let text = text_of(&rt, rt.alloc(), OLDER_THEN_NEWER_THEN_KEPT);
     let lines = shown(rt.alloc(), text.as_slice())?;
@@ -113,6 +186,42 @@ fn bad_lines_are_named(rt: HostRuntime) -> Result<(), Fail> {
         (b"signal 1\n0 join\n0 x5\n".as_slice(), 3),
         (
             b"signal 1\n0 join\n0 x4\n0 absorb 18446744073709551616\n".as_slice(),
+            4,
+        ),
+    ];
+    for (script, line) in cases {
+        assert_eq!(rt; bad_line(&rt, rt.alloc(), script), line);
+    }
+    Ok(())
+}
+
+#[test]
+fn bad_lines_on_locks_are_named(rt: HostRuntime) -> Result<(), Fail> {
+    let cases = [
+        (b"lock 0 1\n".as_slice(), 1),
+        (b"lock 65 1\n".as_slice(), 1),
+        (b"lock 1 0\n".as_slice(), 1),
+        (b"lock 1 201\n".as_slice(), 1),
+        (b"lock 1\n".as_slice(), 1),
+        (b"lock 1 1 1\n".as_slice(), 1),
+        (b"lock 1 1\n0 release 0\n".as_slice(), 2),
+        (b"lock 1 1\n0\n".as_slice(), 2),
+        (b"lock 1 1\n1 down\n".as_slice(), 2),
+        (b"lock 1 1\n0 acquire 1 S\n".as_slice(), 2),
+        (b"lock 1 1\n0 acquire 0 U\n".as_slice(), 2),
+        (b"lock 1 1\n0 acquire 0\n".as_slice(), 2),
+        (b"lock 1 1\n0 poke 1\n".as_slice(), 2),
+        (b"lock 1 1\n0 down 0\n".as_slice(), 2),
+        (
+            b"lock 1 1\n0 varwait 0 18446744073709551616\n".as_slice(),
+            2,
+        ),
+        (b"lock 1 1\n0 down\n0 down\n".as_slice(), 3),
+        (b"lock 1 1\n0 acquire 0 S\n0 x3\n".as_slice(), 3),
+        (b"lock 1 1\n0 acquire 0 S\n0 x2\n0 try 0 S\n".as_slice(), 4),
+        (b"lock 1 1\n0 acquire 0 S\n0 x2\n0 var 0 1\n".as_slice(), 4),
+        (
+            b"lock 1 1\n0 acquire 0 X\n0 x2\n0 write 0 4 1\n".as_slice(),
             4,
         ),
     ];

@@ -7,24 +7,10 @@ ghost use Rattle.schedule_script.specs.Signals.{absorb_answer, answer, answer_li
 ghost use Rattle.schedule_script.specs.SignalSketch.{told};
 
 use super::{Ask, Backend};
-use itoa::Buffer;
+use crate::texts::{push, push_number};
 use proc_table::ProcNo;
 use signal_core::{About, Frame, SigStep, Slot};
 use std::alloc::AllocError;
-
-/// Appends a text.
-pub(super) fn push(out: &mut Vec<u8>, text: &str) -> Result<(), AllocError>
-    ensures { OnOk result (out.new.items ≡ out.old.items ++ text.now) }
-{
-    out.extend_from_slice(text.as_bytes())
-}
-
-// Appends a number.
-fn push_number(out: &mut Vec<u8>, number: u64) -> Result<(), AllocError>
-    ensures { OnOk result (out.new.items ≡ out.old.items ++ decimal number) }
-{
-    push(out, Buffer::new().format(number))
-}
 
 fn kind_name(step: &SigStep) -> &'static str
     ensures { result.now ≡ kind_name step.now }

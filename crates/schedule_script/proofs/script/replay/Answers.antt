@@ -1,15 +1,17 @@
-use Rattle.std.proofs.Common.{◌≡◌, ◌∙◌, ◌+◌, ℕ, List, length, Option, None, Some, Vec, Global, sym, ap, refl, arith}
+use Rattle.std.proofs.Common.{◌≡◌, ◌∙◌, ◌+◌, length, Option, None, Some, sym, ap, refl}
 use Rattle.signal_core.specs.declared.view.About.{About}
-use Rattle.schedule_script.specs.Lines.{Numbered, lines, live}
+use Rattle.lw_core.specs.declared.view.Size.{Size}
+use Rattle.schedule_script.specs.Lines.{lines, live}
 use Rattle.schedule_script.specs.LineViews.{numbered}
 use Rattle.schedule_script.specs.Play.{played}
-use Rattle.schedule_script.specs.Replays.{Replays}
-use Rattle.schedule_script.specs.ScriptText.{Answer, answer_by, answer_under, script_answer, opening_moment, signal_play}
+use Rattle.schedule_script.specs.ScriptText.{answer_by, answer_under, script_answer, opening_moment}
 use Rattle.schedule_script.specs.SignalScripts.{signal_header}
-use Rattle.schedule_script.specs.SignalScripts as script
+use Rattle.schedule_script.specs.LockScripts.{lock_header}
 use Rattle.schedule_script.specs.SignalSketch as sketch
+use Rattle.schedule_script.specs.LockSketch as lock
 use Rattle.schedule_script.proofs.ScriptFacts.{no_header, replays, under_header}
 use Rattle.schedule_script.proofs.SketchFacts.{sketch_plays}
+use Rattle.schedule_script.proofs.LockSketchFacts.{lock_sketch_plays}
 use Rattle.schedule_script.proofs.script.replay.Goals as goal
 
 pub returns-in_default : goal.returns-in_default
@@ -17,20 +19,33 @@ returns-in_default c =
     let n : c.next_line.new.self.number ≡ 1 + length (lines c.args.script.now) = c.in_default.ensures.end refl in
     rw (no_header c.args.script.now c.next_line.new.self.number c.in_default.ensures.line n) refl
 
-pub returns-in_default-signal_header : goal.returns-in_default-signal_header
-returns-in_default-signal_header c =
-    let header = numbered c.in-Some.header in
-    let rest = live c.next_line.new.self.number (lines c.next_line.new.self.rest.now) in
-    let none : signal_header header.text ≡ None = sym c.signal_header.ensures.about ∙ c.in_default-signal_header.is in
-    rw (under_header c.args.script.now header rest c.in-Some.ensures.line ∙ ap (λ (o : Option About). answer_under header o rest) none) refl
-
-pub returns : goal.returns
-returns c =
+pub returns-in-Some-signal_header : goal.returns-in-Some-signal_header
+returns-in-Some-signal_header c =
     let header = numbered c.in-Some.header in
     let rest = live c.next_line.new.self.number (lines c.next_line.new.self.rest.now) in
     let z : About = c.in-Some-signal_header.about in
     let some : signal_header header.text ≡ Some z = sym c.signal_header.ensures.about ∙ c.in-Some-signal_header.is in
     let is : script_answer c.args.script.now ≡ answer_by sketch.ends (played sketch.begins sketch.steps (opening_moment (sketch.opening_sketch z)) rest) =
-    under_header c.args.script.now header rest c.in-Some.ensures.line ∙ ap (λ (o : Option About). answer_under header o rest) some ∙ sym (sketch_plays z rest) in
-    let plays = rw (c.in_ok-new.ensures.opening, c.new-2.ensures.items) at c.play.ensures in
+    under_header c.args.script.now header rest c.in-Some.ensures.line ∙ ap (λ (o : Option About). answer_under header o (lock_header header.text) rest) some ∙ sym (sketch_plays z rest) in
+    let plays = rw (c.in_ok-new.ensures.opening, c.new-in-Some-signal_header.ensures.items) at c.play.ensures in
     rw is (replays (λ v. v.items) sketch.ends (played sketch.begins sketch.steps (opening_moment (sketch.opening_sketch z)) rest) c.play.result plays)
+
+pub returns-in_default-lock_header : goal.returns-in_default-lock_header
+returns-in_default-lock_header c =
+    let header = numbered c.in-Some.header in
+    let rest = live c.next_line.new.self.number (lines c.next_line.new.self.rest.now) in
+    let none : signal_header header.text ≡ None = sym c.signal_header.ensures.about ∙ c.in_default-signal_header.is in
+    let nor : lock_header header.text ≡ None = sym c.lock_header.ensures.size ∙ c.in_default-lock_header.is in
+    rw (under_header c.args.script.now header rest c.in-Some.ensures.line ∙ ap (λ (o : Option About). answer_under header o (lock_header header.text) rest) none ∙ ap (λ (o : Option Size). answer_under header None o rest) nor) refl
+
+pub returns : goal.returns
+returns c =
+    let header = numbered c.in-Some.header in
+    let rest = live c.next_line.new.self.number (lines c.next_line.new.self.rest.now) in
+    let z : Size = c.in-Some-lock_header.size in
+    let none : signal_header header.text ≡ None = sym c.signal_header.ensures.about ∙ c.in_default-signal_header.is in
+    let some : lock_header header.text ≡ Some z = sym c.lock_header.ensures.size ∙ c.in-Some-lock_header.is in
+    let is : script_answer c.args.script.now ≡ answer_by lock.ends (played lock.begins lock.steps (opening_moment (lock.opening_sketch z)) rest) =
+    under_header c.args.script.now header rest c.in-Some.ensures.line ∙ ap (λ (o : Option About). answer_under header o (lock_header header.text) rest) none ∙ ap (λ (o : Option Size). answer_under header None o rest) some ∙ sym (lock_sketch_plays z rest) in
+    let plays = rw (c.in_ok-new-2.ensures.opening, c.new-3.ensures.items) at c.play-2.ensures in
+    rw is (replays (λ v. v.items) lock.ends (played lock.begins lock.steps (opening_moment (lock.opening_sketch z)) rest) c.play-2.result plays)

@@ -1,4 +1,4 @@
-use Rattle.std.proofs.Common.{◌≡◌, ◌∙◌, ◌++◌, ◌==◌, ℕ, cond, [], ◌∷◌, List, sym, ap, arith}
+use Rattle.std.proofs.Common.{◌∙◌, ◌++◌, ◌==◌, ℕ, cond, [], ◌∷◌, List, sym, ap, arith}
 use Rattle.std.proofs.lemmas.List.FromFn.{map-range_with_len_more}
 use Rattle.signal_core.specs.Words.{opened}
 use Rattle.schedule_script.proofs.signals.first_words.Goals as goal

@@ -1,5 +1,5 @@
-use Rattle.std.proofs.Common.{◌≡◌, ◌∙◌, ◌+◌, false, true, List, [], ◌∷◌, length, ℕ, ap, refl, sym, arith}
-use Rattle.schedule_script.specs.Lines.{is_skipped, lines, live}
+use Rattle.std.proofs.Common.{◌≡◌, ◌∙◌, ◌+◌, false, true, length, ap, refl, sym, arith}
+use Rattle.schedule_script.specs.Lines.{is_skipped, lines}
 use Rattle.schedule_script.proofs.LineFacts.{live-none, live-skipped, live-taken}
 use Rattle.schedule_script.proofs.lines.Lines.next_line.Goals as goal
 

@@ -1,9 +1,8 @@
-use Rattle.std.proofs.Common.{◌≡◌, ◌∙◌, false, true, Some, None, List, ℕ, Vec, Global, Result, sym, refl}
-use Rattle.schedule_script.specs.declared.play.ScriptFault.{ScriptFault}
+use Rattle.std.proofs.Common.{◌∙◌, false, true, refl}
 use Rattle.schedule_script.specs.Lines.{lines, live}
 use Rattle.schedule_script.specs.LineViews.{numbered}
-use Rattle.schedule_script.specs.Moments.{Plays, moment_of}
-use Rattle.schedule_script.specs.Play.{Bad, ComesTo, Ended, Outcome, played, taken}
+use Rattle.schedule_script.specs.Moments.{moment_of}
+use Rattle.schedule_script.specs.Play.{ComesTo, taken}
 use Rattle.schedule_script.proofs.PlayFacts.{came, stayed, played-none, played-more, played-bad}
 use Rattle.schedule_script.proofs.play.Play.play.Goals as goal
 

@@ -1,4 +1,4 @@
-use Rattle.std.proofs.Common.{◌≡◌, ◌∙◌, ◌-◌, ◌<◌, ◌+◌, false, true, Some, None, ap, arith}
+use Rattle.std.proofs.Common.{◌≡◌, ◌∙◌, ◌-◌, ◌+◌, false, true, ap, arith}
 use Rattle.schedule_script.specs.Play.{ComesTo, repeated, stepped}
 use Rattle.schedule_script.specs.Moments.{moment_of}
 use Rattle.schedule_script.proofs.PlayFacts.{came, stayed, comes, stays, repeated-none, repeated-more, repeated-stuck}

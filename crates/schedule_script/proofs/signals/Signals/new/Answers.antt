@@ -1,4 +1,3 @@
-use Rattle.std.proofs.Common.{◌≡◌}
 use Rattle.schedule_script.proofs.SignalFacts.{opening-fits}
 use Rattle.schedule_script.proofs.signals.Signals.new.Goals as goal
 

@@ -1,10 +1,7 @@
-use Rattle.std.proofs.Common.{◌≡◌, ◌∙◌, ◌<◌, ◌++◌, ℕ, List, Some, get_or, set, length, sym, ap, subst, arith}
-use Rattle.std.specs.Prelude.{OnOk, slice_index}
+use Rattle.std.proofs.Common.{◌≡◌, ◌∙◌, ◌<◌, ℕ, Some, get_or, set, length, sym, ap, subst, arith}
 use Rattle.std.proofs.lemmas.List.{get_or_read}
 use Rattle.signal_core.specs.declared.step.SigStep.{SigStep}
-use Rattle.signal_core.specs.Machine.{word_of, becomes}
 use Rattle.schedule_script.specs.declared.signals.Backend.{Backend}
-use Rattle.schedule_script.specs.Signals.{step_at}
 use Rattle.schedule_script.specs.SignalSketch.{BackendFits, Sketch, backend_at, idle, turn, told, went}
 use Rattle.schedule_script.proofs.SignalFacts.{on_ok, set-fits, told-by, turned-by, went-fits, word-in}
 use Rattle.schedule_script.proofs.signals.Signals.turn.Goals as goal

@@ -1,4 +1,4 @@
-use Rattle.std.proofs.Common.{◌≡◌, ◌∙◌, sym, arith}
+use Rattle.std.proofs.Common.{◌∙◌, sym, arith}
 use Rattle.schedule_script.proofs.KindFacts.{lowest-here, lowest-else, lowest-end}
 use Rattle.schedule_script.proofs.signals.steps.lowest.Goals as goal
 

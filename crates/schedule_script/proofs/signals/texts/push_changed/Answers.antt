@@ -1,4 +1,4 @@
-use Rattle.std.proofs.Common.{◌≡◌, ◌∙◌, ◌++◌, ◌+◌, ◌<◌, ◌≤◌, List, ℕ, [], length, drop, get_or, sym, ap, append_assoc, append-nil, arith}
+use Rattle.std.proofs.Common.{◌≡◌, ◌∙◌, ◌++◌, ◌+◌, List, ℕ, [], drop, get_or, sym, ap, append_assoc, append-nil, arith}
 use Rattle.schedule_script.specs.Signals.{changed_word, changed_words}
 use Rattle.schedule_script.proofs.KindFacts.{changed_words-more, changed_words-none}
 use Rattle.schedule_script.proofs.signals.texts.push_changed.Goals as goal

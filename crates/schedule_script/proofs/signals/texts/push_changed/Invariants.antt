@@ -1,4 +1,4 @@
-use Rattle.std.proofs.Common.{◌≡◌, ◌++◌, ◌≤◌, drop, length}
+use Rattle.std.proofs.Common.{◌≡◌, ◌++◌, drop}
 use Rattle.schedule_script.specs.Signals.{changed_words}
 use Rattle.schedule_script.proofs.signals.texts.push_changed.Given as goal
 

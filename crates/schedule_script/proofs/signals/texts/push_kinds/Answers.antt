@@ -1,6 +1,5 @@
-use Rattle.std.proofs.Common.{◌≡◌, ◌∙◌, ◌++◌, ℕ, List, sym, ap, append_assoc, arith}
+use Rattle.std.proofs.Common.{◌≡◌, ◌∙◌, ◌++◌, ℕ, List, ap, append_assoc, arith}
 use Rattle.std.specs.Int.{bit_at}
-use Rattle.signal_core.specs.Machine.{kinds_below}
 use Rattle.schedule_script.specs.Signals.{kinds_text}
 use Rattle.schedule_script.proofs.KindFacts.{kinds_in-all, kinds_text-more}
 use Rattle.schedule_script.proofs.signals.texts.push_kinds.Goals as goal
