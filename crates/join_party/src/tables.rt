@@ -5,7 +5,9 @@ ghost use Rattle.std.specs.Int.{IsPowerOfTwo};
 ghost use Rattle.lw_core.specs.Machine as lock;
 ghost use Rattle.wait_core.specs.Seating as wait;
 ghost use Rattle.signal_core.specs.Seating as signal;
+ghost use Rattle.row_model.specs.declared.Side.{Side};
 ghost use Rattle.join_law.specs.Views.{first_view};
+ghost use Rattle.join_party.specs.Claims.{MayStillEnd};
 
 use crate::party::HashParty;
 use lw_core::{Guarded, LwSeat, LwTable};
@@ -55,6 +57,7 @@ pub struct JoinSeats<'r> {
     pub lock: LwSeat,
     pub wait: WaitSeat<HashParty<'r>>,
     pub signal: SigSeat,
+    ghost ends: { (side : Side) → MayStillEnd wait.view.client side },
 }
 
 /// The tables of a join of these rows by this plan, and the leader's seats, with the number 0.
