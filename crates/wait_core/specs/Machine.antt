@@ -12,7 +12,7 @@ use Rattle.wait_core.specs.declared.step.Call.TheVariants as call
 use Rattle.wait_core.specs.declared.step.WaitStep.{WaitStep}
 use Rattle.wait_core.specs.declared.step.WaitStep.TheVariants.{Sload, Sset, Reset, Mstore, Mload, Byte, Look, Drain, Shload, Shstore, Take, Spin, Free}
 use Rattle.wait_core.specs.declared.view.Frame.{Frame}
-use Rattle.wait_core.specs.declared.view.Frame.TheVariants.{Setting, Telling, Waking, Announcing, Rechecking, CheckingShutdown, Looking, Asleep, Retracting, Draining, Repeating, LeavingSet, LeavingShutdown, Stopping, Taking, Spinning, Holding, Resetting, SleepWaiting, Preparing, Broadcasting, Signalling, Rousing}
+use Rattle.wait_core.specs.declared.view.Frame.TheVariants.{Setting, Telling, Waking, Announcing, Rechecking, CheckingShutdown, Looking, Asleep, Retracting, Draining, Repeating, LeavingSet, LeavingShutdown, Stopping, Taking, Spinning, Holding, Resetting, SleepWaiting, Preparing, Broadcasting, Signalling, Rousing, Settling, Dozing, Passing, Returning}
 use Rattle.wait_core.specs.declared.view.Job.TheVariants as job
 use Rattle.wait_core.specs.declared.view.Made.{Made}
 use Rattle.wait_core.specs.declared.view.Kept.{Kept}
@@ -20,7 +20,7 @@ use Rattle.wait_core.specs.declared.view.Record.{Record}
 use Rattle.wait_core.specs.declared.view.Size.{Size}
 use Rattle.wait_core.specs.declared.view.WaitView.{WaitView}
 use Rattle.wait_core.specs.Words.{set_at, may_at, byte_at, shut_at, slot_of, spin_at}
-use Rattle.wait_core.specs.Jobs.{spot_of, left_list, left_record, target_after, heeds_after, attached_after, resumed, goes_on}
+use Rattle.wait_core.specs.Jobs.{spot_of, left_list, left_record, target_after, heeds_after, attached_after, elections_after, resumed, goes_on}
 
 -- the words, what is at home in the slots, and one view per seat
 abbrev pub WaitState : Type 0 → Type 0
@@ -156,7 +156,10 @@ entered target (call.Signal c) p = Taking (job.Signal c) ∷ p
 entered (Some t) (call.Broadcast c) p = Taking (job.Cancel t) ∷ Broadcasting c ∷ p
 entered None (call.Broadcast c) p = Taking (job.Broadcast c) ∷ p
 entered target (call.Attach b) p = Taking (job.Attach b) ∷ p
+entered target (call.Arrive b) p = Taking (job.Arrive b) ∷ p
 entered target (call.Detach b) p = Taking (job.Detach b) ∷ p
+entered target (call.ArriveDetach b) p = Taking (job.ArriveDetach b) ∷ p
+entered target (call.ExceptLast b) p = Taking (job.ExceptLast b) ∷ p
 entered target c p = p
 
 -- what a spin word guards, with this list and this record
@@ -174,7 +177,7 @@ spun is_free p = p
 
 -- the word was freed by the backend `own`
 abbrev pub freed : ℕ → Place → Place
-freed own (Holding j list found ∷ p) = goes_on j own list p
+freed own (Holding j list found ∷ p) = goes_on j own list found p
 freed own p = p
 
 -- the place after a step that found n on a word that is no spin word
@@ -230,6 +233,15 @@ freed_attached p attached = attached
 abbrev pub attached_then : WaitStep → Place → List (ℕ × ℕ) → List (ℕ × ℕ)
 attached_then (Free x target) p attached = freed_attached p attached
 attached_then k p attached = attached
+
+-- its elections
+abbrev pub freed_elections : Place → List (ℕ × ℕ) → List (ℕ × ℕ)
+freed_elections (Holding j list found ∷ p) elections = elections_after j found elections
+freed_elections p elections = elections
+
+abbrev pub elections_then : WaitStep → Place → List (ℕ × ℕ) → List (ℕ × ℕ)
+elections_then (Free x target) p elections = freed_elections p elections
+elections_then k p elections = elections
 
 -- what is left of what the backend `own` has in hand
 abbrev pub left_at : ℕ → Place → Kept
@@ -290,11 +302,32 @@ abbrev pub WaitsForLatch : Call → Type 0
 WaitsForLatch (call.Wait Latch) = ⊤
 WaitsForLatch c = ⊥
 
+-- it prepares to sleep on this condition, sleeps on it, or broadcasts on it; or it leaves the list of the target
+abbrev pub PreparesOn : ℕ → Call → Type 0
+PreparesOn c (call.Prepare d) = c ≡ d
+PreparesOn c k = ⊥
+
+abbrev pub SleepsOn : ℕ → Call → Type 0
+SleepsOn c (call.Sleep d) = c ≡ d
+SleepsOn c k = ⊥
+
+abbrev pub BroadcastsOn : ℕ → Call → Type 0
+BroadcastsOn c (call.Broadcast d) = c ≡ d
+BroadcastsOn c k = ⊥
+
+abbrev pub LeavesTarget : Call → Type 0
+LeavesTarget call.Cancel = ⊤
+LeavesTarget k = ⊥
+
 -- the call's program stands inside that of the frame
 abbrev pub IsInside : Call → Frame → Type 0
 IsInside k (Signalling c q) = SetsLatchOf q k
 IsInside k (Rousing c q more) = SetsLatchOf q k
 IsInside k (SleepWaiting c) = WaitsForLatch k
+IsInside k (Settling b ph) = PreparesOn b k
+IsInside k (Dozing b ph) = SleepsOn b k
+IsInside k (Passing b ph) = BroadcastsOn b k
+IsInside k (Returning b ph) = LeavesTarget k
 IsInside k f = ⊥
 
 -- the call may begin here: the seat is in no call, or at a frame whose program has the call inside
@@ -337,7 +370,10 @@ takes_first target (call.Signal c) = Some (Cv c)
 takes_first None (call.Broadcast c) = Some (Cv c)
 takes_first (Some t) (call.Broadcast c) = Some (Cv t)
 takes_first target (call.Attach b) = Some (Bar b)
+takes_first target (call.Arrive b) = Some (Bar b)
 takes_first target (call.Detach b) = Some (Bar b)
+takes_first target (call.ArriveDetach b) = Some (Bar b)
+takes_first target (call.ExceptLast b) = Some (Bar b)
 takes_first target c = None
 
 -- the spin word is the table's
@@ -420,6 +456,7 @@ module _ {C : Type 0} where
     target = target_then k v.target;
     heeds = heeds_then k (number_of v.own) v.place v.heeds;
     attached = attached_then k v.place v.attached;
+    elections = elections_then k v.place v.elections;
   }
 
   -- the same of a step that takes nothing in hand

@@ -9,7 +9,7 @@ use Rattle.wait_core.specs.declared.view.PartyView.{PartyView}
 use Rattle.wait_core.specs.declared.view.Size.{Size}
 use Rattle.wait_core.specs.declared.view.WaitView.{WaitView}
 use Rattle.wait_core.specs.Meanings.{Meanings}
-use Rattle.wait_core.specs.Words.{most_conditions, set_at, shut_at, opened, opening_words, opening_phases}
+use Rattle.wait_core.specs.Words.{most_conditions, last_phase, set_at, shut_at, opened, opening_words, opening_phases}
 use Rattle.wait_core.specs.Machine.{WaitState}
 use Rattle.wait_core.specs.Parties.{newcomer}
 use Rattle.wait_core.specs.Seating.{fresh}
@@ -48,6 +48,8 @@ module _ {C : Type 0} where
   pub record IsOpening (first : C) (opens : ℕ → ℕ) (means : Meanings C) (count : ℕ) (z : Size) (phase : ℕ) (s : WaitState C) : Type 0 where
     pub procs : (0 < z.procs) × (z.procs ≤ 64)
     pub cvs : z.cvs ≤ most_conditions
+    pub bars : z.bars ≤ z.cvs
+    pub phase_inside : phase ≤ last_phase
     pub slots : List Kept
     pub new : OpeningSlots z phase slots
     pub kept : means.holds (opened opens count) (newcomer first (Some 0) ∷ []) (opening_phases z phase)

@@ -18,7 +18,7 @@ use Rattle.wait_core.specs.WordsAreMade.{WordsAreMade}
 use Rattle.wait_core.specs.ListsAreMade.{ListsAreMade}
 use Rattle.wait_core.specs.ListsStand.{ListsStand}
 use Rattle.wait_core.specs.LeftAreFree.{LeftAreFree}
-use Rattle.wait_core.specs.Barriers.{attendance_of, phases_in, CountsParticipants, NoneIsBelow, IdleAreHere, CallsSuit}
+use Rattle.wait_core.specs.Barriers.{attendance_of, phases_in, CountsParticipants, CountsArrived, PhasesAreInside, PhasesAreKnown, WaitersAreQuiet, ElectionsAreRecorded, CallsSuit}
 
 -- the numbers of backends, of words, and of slots: one for each condition that there may be, and for each barrier
 pub record Sized (z : Size) (count words homes : ℕ) : Type 0 where
@@ -50,8 +50,11 @@ module _ {C : Type 0} (means : Meanings C) (z : Size) (phase count : ℕ) where
     pub lists : ListsStand z s.words s.homes (map stance_of s.views)
     pub left : LeftAreFree (map party_of s.views)
     pub barriers : Barriers (map party_of s.views) (phases_in z s)
-    pub here : IdleAreHere (phases_in z s) (map attendance_of s.views)
+    pub known : PhasesAreKnown (phases_in z s) (map attendance_of s.views)
+    pub waiters : WaitersAreQuiet means (map attendance_of s.views)
     pub participants : CountsParticipants z s.homes (map attendance_of s.views)
-    pub reached : NoneIsBelow z phase s.homes (map attendance_of s.views)
+    pub arrived : CountsArrived z s.homes (map attendance_of s.views)
+    pub elections : ElectionsAreRecorded z s.homes (map attendance_of s.views)
+    pub inside : PhasesAreInside z phase s.homes (map attendance_of s.views)
     pub suits : CallsSuit means (map attendance_of s.views)
     pub client : ClientHolds means z s

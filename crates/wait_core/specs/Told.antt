@@ -14,14 +14,14 @@ use Rattle.wait_core.specs.declared.view.WaitView.{WaitView}
 use Rattle.wait_core.specs.Meanings.{Meanings}
 use Rattle.wait_core.specs.Parties.{phase_of}
 use Rattle.wait_core.specs.Lists.{is_listed, AllBelow}
-use Rattle.wait_core.specs.Words.{slot_of}
+use Rattle.wait_core.specs.Words.{last_phase, slot_of}
 use Rattle.seat_roster.specs.Totals.{total}
 use mathlib.Core.Option as maybe
 use lib.ListN.{get_elem?}
-use Rattle.wait_core.specs.Machine.{WaitState, number_of, next_with, act_of}
+use Rattle.wait_core.specs.Machine.{WaitState, Place, number_of, next_with, act_of}
 use Rattle.wait_core.specs.Stances.{slot_in, hand_at, belongs_at}
 use Rattle.wait_core.specs.Seating.{party_of, client_moved, with_drawn}
-use Rattle.wait_core.specs.Barriers.{attendance_of, takes_part}
+use Rattle.wait_core.specs.Barriers.{attendance_of, takes_part, waits_at}
 use Rattle.wait_core.specs.Rule.{Rule}
 
 -- On the list of the slot x, which was taken in hand, stand backends of the table alone. The backend `own` is on it once, and only where it belongs there; else there is room for it
@@ -37,10 +37,21 @@ abbrev pub Tells : Size → WaitStep → ℕ → Option ℕ → ℕ → List ℕ
 Tells z (Take x begins) own belongs n found = n ≡ 0 → TellsList z own belongs (slot_of x) found
 Tells z k own belongs n found = ⊤
 
--- who isn't attached finds room for one participant more; who is finds itself counted, and the phase that it knows
-abbrev pub CountsSeat : Option ℕ → Record → Type 0
-CountsSeat None r = r.participants < 64
-CountsSeat (Some ph) r = (1 ≤ r.participants) × (r.phase ≡ ph)
+-- a barrier's record: at most 64 take part, of whom some have arrived, and its phase is at most the one that is never passed
+pub record IsInside (r : Record) : Type 0 where
+  pub few : r.participants ≤ 64
+  pub arrived : r.arrived ≤ r.participants
+  pub phase : r.phase ≤ last_phase
+
+-- who waits for no phase finds the one that it knows
+abbrev pub FindsPhase : Option (ℕ × ℕ) → ℕ → Record → Type 0
+FindsPhase None ph r = r.phase ≡ ph
+FindsPhase (Some w) ph r = ⊤
+
+-- who isn't attached finds room for one participant more; who is finds itself counted
+abbrev pub CountsSeat : Option (ℕ × ℕ) → Option ℕ → Record → Type 0
+CountsSeat waits None r = r.participants < 64
+CountsSeat waits (Some ph) r = (1 ≤ r.participants) × FindsPhase waits ph r
 
 -- the slot that is out with the seat after a step that found n
 abbrev pub slot_then : WaitStep → ℕ → Option ℕ → Option ℕ
@@ -56,14 +67,15 @@ module _ {C : Type 0} (means : Meanings C) (z : Size) (phase count : ℕ) where
     pub here : get_elem? (map party_of state.views) id ≡ maybe.some v
     pub counted : r.participants ≡ total (takes_part b) (map attendance_of state.views)
 
-  abbrev pub TellsRecord : Spot → ℕ → PartyView C → Record → Type 0
-  TellsRecord (Cv c) id v r = ⊤
-  TellsRecord (Bar b) id v r = CountsSeat (phase_of v.attached b) r × CountsAttached b id v r
+  -- of a seat at this place. The barrier has a condition
+  abbrev pub TellsRecord : Spot → ℕ → Place → PartyView C → Record → Type 0
+  TellsRecord (Cv c) id p v r = ⊤
+  TellsRecord (Bar b) id p v r = (b < z.cvs) × IsInside r × CountsSeat (waits_at p) (phase_of v.attached b) r × CountsAttached b id v r
 
   -- what a step that found n tells of the record that it took in hand
-  abbrev pub TellsBarrier : WaitStep → ℕ → PartyView C → ℕ → Record → Type 0
-  TellsBarrier (Take x begins) id v n r = n ≡ 0 → TellsRecord x id v r
-  TellsBarrier k id v n r = ⊤
+  abbrev pub TellsBarrier : WaitStep → ℕ → Place → PartyView C → ℕ → Record → Type 0
+  TellsBarrier (Take x begins) id p v n r = n ≡ 0 → TellsRecord x id p v r
+  TellsBarrier k id p v n r = ⊤
 
 module _ {C : Type 0} where
   -- the place after the step knows of it

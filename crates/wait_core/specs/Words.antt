@@ -36,6 +36,10 @@ client_base z = 3 * z.procs + 2 + slots_in z
 abbrev pub client_words : Size → List ℕ → List ℕ
 client_words z words = drop (client_base z) words
 
+-- the phase that no barrier passes
+abbrev pub last_phase : ℕ
+last_phase = 4611686018427387904
+
 -- each barrier's phase at the opening
 abbrev pub opening_phases : Size → ℕ → List ℕ
 opening_phases z phase = replicate z.bars phase

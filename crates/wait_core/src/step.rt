@@ -61,8 +61,15 @@ pub enum Call {
     Broadcast(CvNo),
     /// Attaches to the barrier (`BarrierAttach`).
     Attach(BarNo),
-    /// Leaves the barrier, whose phase doesn't pass by that (`BarrierDetach`).
+    /// Arrives, and waits until the phase passes (`BarrierArriveAndWait`).
+    Arrive(BarNo),
+    /// Leaves the barrier (`BarrierDetach`).
     Detach(BarNo),
+    /// Arrives and leaves (`BarrierArriveAndDetach`).
+    ArriveDetach(BarNo),
+    /// Leaves the barrier unless it is the last there, and else passes the phase
+    /// (`BarrierArriveAndDetachExceptLast`).
+    ExceptLast(BarNo),
 }
 
 /// One step on one word. A kind that can be the first step of a call carries the call that it

@@ -44,8 +44,19 @@ pub enum Job {
     Rebroadcast(CvNo),
     /// The barrier has one participant more, and the backend is attached to it.
     Attach(BarNo),
-    /// It has one less, and the backend isn't attached to it any more.
+    /// One more has arrived. Where it is the last the phase passes, and the backend is elected.
+    Arrive(BarNo),
+    /// A backend that waits from this phase looks whether it has passed. Where nobody was elected
+    /// since, it is.
+    Notice(BarNo, u64),
+    /// The barrier has one participant less, and the backend isn't attached to it any more. Where all
+    /// others have arrived the phase passes.
     Detach(BarNo),
+    /// The same, and the phase passes also where there is no other.
+    ArriveDetach(BarNo),
+    /// The barrier has one participant less. Where there is no other the backend stays, and the phase
+    /// passes.
+    ExceptLast(BarNo),
 }
 
 /// What is still to be done of a call. A seat's place is a stack of these, the innermost first.
@@ -96,6 +107,14 @@ pub enum Frame {
     /// A broadcast that popped the backend, and whether its sentinel was on the list when it freed
     /// the word.
     Rousing(CvNo, ProcNo, bool),
+    /// An arrival that waits from this phase, behind its listing on the barrier's condition and behind
+    /// its sleep on it.
+    Settling(BarNo, u64),
+    Dozing(BarNo, u64),
+    /// A call that passed this phase, behind its broadcast on the barrier's condition.
+    Passing(BarNo, u64),
+    /// An arrival that waited this phase out, behind the leaving of the list.
+    Returning(BarNo, u64),
 }
 
 /// A step that was made, the word that it found, and the list that it took in hand or sent home.
