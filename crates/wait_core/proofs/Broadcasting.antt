@@ -193,7 +193,7 @@ module _ {C : Type 0} (means : Meanings C) (z : Size) (phase count : ℕ) (s : W
           let mine = own_counts seats alone id o (stance_of v) (stance_of v) there own refl (λ (u : Stance). u.belongs) (slot_of (spot_of j)) in let no = ap (is_just (slot_of (spot_of j))) none in omega arith
 
       -- its free
-      freed_goes : (p : ℕ) (k : WaitStep) → Permits z k (Some o) v.target v.place → v.target ≡ None → target_after j None ≡ None → 1 ≤ times p list → Goes p o (slot_of (spot_of j)) (left_list j o list) (goes_on j o list rest) → (list' : List ℕ)
+      freed_goes : (p : ℕ) (k : WaitStep) → Permits z k (Some o) v.target v.place → v.target ≡ None → target_after j None ≡ None → 1 ≤ times p list → Goes p o (slot_of (spot_of j)) (left_list j o list) (goes_on j o list found rest) → (list' : List ℕ)
           → TakesOff p (slot_of (spot_of j)) s id (moved z s id v o k) ⊎ Covers id o (slot_of (spot_of j)) p list' (moved z s id v o k)
       freed_goes p k ok free still some goes list' = let f = freed_next z k (Some o) v.target j list found rest (subst (λ (x : Place). Permits z k (Some o) v.target x) place ok) in
           subst (λ (x : WaitStep). TakesOff p (slot_of (spot_of j)) s id (moved z s id v o x) ⊎ Covers id o (slot_of (spot_of j)) p list' (moved z s id v o x)) (sym f.1) (by_free f.0 (f.2 ∙ (ap (target_after j) free ∙ still)))
@@ -202,20 +202,20 @@ module _ {C : Type 0} (means : Meanings C) (z : Size) (phase count : ℕ) (s : W
           by_free a none =
               let k' : WaitStep = Free (spot_of j) a in let n : ℕ = get_or s.words (word_of z o k') 0 in let w : WaitView C = next_with z k' v n (home_in s.homes (slot_number k')) in
               let c : ℕ = slot_of (spot_of j) in let kept : Kept = left_at o v.place in
-              let place' : w.place ≡ goes_on j o list rest = ap (λ (x : ℕ). freed x v.place) (ap number_of own) ∙ ap (freed o) place in
+              let place' : w.place ≡ goes_on j o list found rest = ap (λ (x : ℕ). freed x v.place) (ap number_of own) ∙ ap (freed o) place in
               let seen : map stance_of (set s.views id w) ≡ set seats id (stance_of w) = map-set stance_of s.views id w in
               let items = left_is o v.place j list found rest place in
               let at' = set_there s.views id v w at in
               let sum = λ (f : List ℕ → ℕ) (zero : f [] ≡ 0). amount_sent s.homes seats id (stance_of v) (stance_of w) there f zero c c list kept out hand (ap hand_at place' ∙ goes.0) refl in
               let times_sum = sum (times p) refl in let order_sum = sum (precedes p o) refl in let count = counted (times p) refl in let order = counted (precedes p o) refl in
               let times_left = ap (times p) items in let order_left = ap (precedes p o) items in
-              ⊎_elim (λ (t : (times p (left_list j o list) ≡ 0) × (pops_at (goes_on j o list rest) ≡ Some p)). let none_left = t.0 in inl record {
+              ⊎_elim (λ (t : (times p (left_list j o list) ≡ 0) × (pops_at (goes_on j o list found rest) ≡ Some p)). let none_left = t.0 in inl record {
                 was = omega arith;
                 gone = subst (λ (l : List Stance). times_on p c (set s.homes c (maybe.some kept)) l ≡ 0) (sym seen) (omega arith);
                 view = w;
                 at = at';
                 by = inr (ap pops_at place' ∙ t.1);
-              }) (λ (t : (sentinel_at (goes_on j o list rest) ≡ Some c) × (1 ≤ precedes p o (left_list j o list))). let still_there = t.1 in inr (inr record {
+              }) (λ (t : (sentinel_at (goes_on j o list found rest) ≡ Some c) × (1 ≤ precedes p o (left_list j o list))). let still_there = t.1 in inr (inr record {
                 view = w;
                 at = at';
                 own = own;
@@ -239,7 +239,7 @@ module _ {C : Type 0} (means : Meanings C) (z : Size) (phase count : ℕ) (s : W
           let fit = subst (Fits z.cvs a.view.target) a.place (fits id q a.view a.at a.own) in let few = fit.0 in
           let most = r.sized.cvs in let inside : c < slots_in z = omega arith in
           freed_goes id q a.view a.at a.own (job.Broadcast c) list a.found a.rest a.place inside p k ok fit.1 refl some
-          (subst (λ (x : Place). Goes p q c (left_list (job.Broadcast c) q list) (goes_on (job.Broadcast c) q list x)) (sym fit.2) (broadcast_goes p q c list ne (once id q a.view a.at a.own (job.Broadcast c) list a.found a.rest a.place inside p) some)) list
+          (broadcast_goes p q c a.rest list ne (once id q a.view a.at a.own (job.Broadcast c) list a.found a.rest a.place inside p) some) list
 
       own_later : (b : Later id q c p list s) (k : WaitStep) → Permits z k (Some q) b.view.target b.view.place → TakesOff p c s id (moved z s id b.view q k) ⊎ Covers id q c p list (moved z s id b.view q k)
       own_later b k ok = ⊎_elim by_none (λ (h : (j : Job) × (l : List ℕ) × (found : Record) × (rest : Place) × (b.view.place ≡ Holding j l found ∷ rest)). by_hand h.1 h.2 h.3
@@ -255,7 +255,7 @@ module _ {C : Type 0} (means : Meanings C) (z : Size) (phase count : ℕ) (s : W
               let before : 1 ≤ precedes p q l = omega arith in
               let one = once id q b.view b.at b.own (job.Rebroadcast c) l found rest place inside in
               freed_goes id q b.view b.at b.own (job.Rebroadcast c) l found rest place inside p k ok fit.1 refl (stands_there p q l before)
-              (subst (λ (x : Place). Goes p q c (left_list (job.Rebroadcast c) q l) (goes_on (job.Rebroadcast c) q l x)) (sym fit.2) (rebroadcast_goes p q c l ne (one p) (one q) before)) list
+              (rebroadcast_goes p q c rest l ne (one p) (one q) before) list
 
           by_none : hand_at b.view.place ≡ None → TakesOff p c s id (moved z s id b.view q k) ⊎ Covers id q c p list (moved z s id b.view q k)
           by_none none =

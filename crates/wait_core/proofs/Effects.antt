@@ -10,17 +10,18 @@ use Rattle.wait_core.specs.declared.step.Spot.TheVariants.{Cv, Bar}
 use Rattle.wait_core.specs.declared.step.WaitStep.{WaitStep}
 use Rattle.wait_core.specs.declared.step.WaitStep.TheVariants.{Sload, Sset, Reset, Mstore, Mload, Byte, Look, Drain, Shload, Shstore, Take, Spin, Free}
 use Rattle.wait_core.specs.declared.view.Frame.{Frame}
-use Rattle.wait_core.specs.declared.view.Frame.TheVariants.{Setting, Telling, Waking, Announcing, Rechecking, CheckingShutdown, Looking, Asleep, Retracting, Draining, Repeating, LeavingSet, LeavingShutdown, Stopping, Taking, Spinning, Holding, Resetting, SleepWaiting, Preparing, Broadcasting, Signalling, Rousing}
+use Rattle.wait_core.specs.declared.view.Frame.TheVariants.{Setting, Telling, Waking, Announcing, Rechecking, CheckingShutdown, Looking, Asleep, Retracting, Draining, Repeating, LeavingSet, LeavingShutdown, Stopping, Taking, Spinning, Holding, Resetting, SleepWaiting, Preparing, Broadcasting, Signalling, Rousing, Settling, Dozing, Passing, Returning}
 use Rattle.wait_core.specs.declared.view.Size.{Size}
 use Rattle.wait_core.specs.declared.view.Job.{Job}
 use Rattle.wait_core.specs.declared.view.Job.TheVariants as job
 use Rattle.wait_core.specs.declared.view.Kept.{Kept}
+use Rattle.wait_core.specs.declared.view.Record.{Record}
 use Rattle.wait_core.specs.Words.{most_conditions, slot_of, slots_in}
-use Rattle.wait_core.specs.Jobs.{resumed, goes_on}
+use Rattle.wait_core.specs.Jobs.{is_worn, is_last, is_awaited, has_passed, resumed, passes_on, goes_on}
 use Rattle.wait_core.specs.Lists.{is_listed}
-use Rattle.wait_core.specs.Machine.{Place, top, outer, bit, begun, watching, reloaded, marked, woken, looked, drained, reset, entered, taken, spun, freed, place_then, MayBegin, MayReload, MayMark, MayWake, MayLook, MayDrain, MayReset, MayTake, MaySpin, MayFree, SetsLatchOf, WaitsForLatch, takes_first, IsSpot, Permits}
+use Rattle.wait_core.specs.Machine.{Place, top, outer, bit, begun, watching, reloaded, marked, woken, looked, drained, reset, entered, taken, spun, freed, place_then, MayBegin, MayReload, MayMark, MayWake, MayLook, MayDrain, MayReset, MayTake, MaySpin, MayFree, SetsLatchOf, WaitsForLatch, PreparesOn, SleepsOn, BroadcastsOn, LeavesTarget, IsInside, takes_first, IsSpot, Permits}
 use Rattle.wait_core.specs.Places.{may_sleep, past_latch, past_shutdown, tells, stops}
-use Rattle.wait_core.specs.Fits.{BehindSet, BehindWait, BehindCancel, JobFits, Fits}
+use Rattle.wait_core.specs.Fits.{BehindPrepare, BehindSleep, BehindBroadcast, BehindSet, BehindWait, BehindCancel, JobFits, Fits}
 
 -- whether it may sleep, as the step leaves it
 abbrev pub marks : WaitStep → Bool → Bool
@@ -99,10 +100,28 @@ either_plain true p q x y = x
 either_plain false p q x y = y
 
 module _ (cvs : ℕ) (t : Option ℕ) where
+  prepare_end : (c : ℕ) (p : Place) → BehindPrepare c p → IsPlain (top (resumed p))
+  prepare_end c [] h = tt
+  prepare_end c (Settling b ph ∷ p) h = tt
+  prepare_end c (f ∷ p) h = absurd h
+
+  sleep_end : (c : ℕ) (p : Place) → BehindSleep c p → IsPlain (top (resumed p))
+  sleep_end c [] h = tt
+  sleep_end c (Dozing b ph ∷ p) h = tt
+  sleep_end c (f ∷ p) h = absurd h
+
+  broadcast_end : (c : ℕ) (p : Place) → BehindBroadcast c p → IsPlain (top (resumed p))
+  broadcast_end c [] h = tt
+  broadcast_end c (Passing b ph ∷ p) h = end_plain p h.1
+  broadcast_end c (f ∷ p) h = absurd h
+
+  roused_end : (c q : ℕ) (more : Bool) (p : Place) → BehindBroadcast c p → IsPlain (top (resumed (Rousing c q more ∷ p)))
+  roused_end c q more p h = either_plain more (Taking (job.Rebroadcast c) ∷ p) (resumed p) tt (broadcast_end c p h)
+
   set_end : (q : ℕ) (p : Place) → BehindSet cvs t q p → IsQuiet (top (resumed p))
   set_end q [] h = plain_quiet None tt
   set_end q (Signalling c r ∷ p) h = plain_quiet _ (end_plain p h.1)
-  set_end q (Rousing c r more ∷ p) h = plain_quiet _ (either_plain more (Taking (job.Rebroadcast c) ∷ p) (resumed p) tt (end_plain p h.3))
+  set_end q (Rousing c r more ∷ p) h = plain_quiet _ (roused_end c r more p h.3)
   set_end q (f ∷ p) h = absurd h
 
   wait_end : (w : Until) (p : Place) → BehindWait cvs t w p → IsQuiet (top (resumed p))
@@ -110,61 +129,114 @@ module _ (cvs : ℕ) (t : Option ℕ) where
   wait_end w (SleepWaiting c ∷ p) h = plain_quiet _ tt
   wait_end w (f ∷ p) h = absurd h
 
-  -- where a call may begin it is quiet, and so is what follows the call
+  -- where a call may begin it is quiet, and so is what follows a call that sets a latch or waits for it
   begin_quiet : (c : Call) (p : Place) → MayBegin c p → IsQuiet (top p)
   begin_quiet c [] ok = plain_quiet None tt
   begin_quiet c (Signalling d q ∷ p) ok = plain_quiet _ tt
   begin_quiet c (Rousing d q more ∷ p) ok = plain_quiet _ tt
   begin_quiet c (SleepWaiting d ∷ p) ok = plain_quiet _ tt
+  begin_quiet c (Settling b ph ∷ p) ok = plain_quiet _ tt
+  begin_quiet c (Dozing b ph ∷ p) ok = plain_quiet _ tt
+  begin_quiet c (Passing b ph ∷ p) ok = plain_quiet _ tt
+  begin_quiet c (Returning b ph ∷ p) ok = plain_quiet _ tt
   begin_quiet c (f ∷ p) ok = absurd ok
 
   begun_end : (c : Call) (p : Place) → MayBegin c p → Fits cvs t p → IsQuiet (top (resumed p))
   begun_end c [] ok h = plain_quiet None tt
   begun_end c (Signalling d q ∷ p) ok h = plain_quiet _ (end_plain p h)
-  begun_end c (Rousing d q more ∷ p) ok h = plain_quiet _ (either_plain more (Taking (job.Rebroadcast d) ∷ p) (resumed p) tt (end_plain p h.2))
+  begun_end c (Rousing d q more ∷ p) ok h = plain_quiet _ (roused_end d q more p h.2)
   begun_end c (SleepWaiting d ∷ p) ok h = plain_quiet _ tt
+  begun_end c (Settling b ph ∷ p) ok h = plain_quiet _ tt
+  begun_end c (Dozing b ph ∷ p) ok h = plain_quiet _ tt
+  begun_end c (Passing b ph ∷ p) ok h = plain_quiet _ (end_plain p h.1)
+  begun_end c (Returning b ph ∷ p) ok h = plain_quiet _ (end_plain p h.1)
   begun_end c (f ∷ p) ok h = absurd ok
 
   cancel_end : (p : Place) → BehindCancel cvs t p → IsPlain (top (resumed p))
   cancel_end [] h = tt
   cancel_end (Preparing c ∷ p) h = tt
   cancel_end (Broadcasting c ∷ p) h = tt
+  cancel_end (Returning b ph ∷ p) h = end_plain p h
   cancel_end (f ∷ p) h = absurd h
 
+  passes_end : (passes : Bool) (b : ℕ) (found : Record) (p : Place) → p ≡ [] → IsPlain (top (passes_on passes b found p))
+  passes_end true b found p h = tt
+  passes_end false b found p h = end_plain p h
+
   -- and what follows the free of a spin word
-  freed_end : (j : Job) (own : ℕ) (list : List ℕ) (p : Place) → JobFits cvs t j p → IsPlain (top (goes_on j own list p))
-  freed_end (job.Cancel c) own list p h = cancel_end p h.2
-  freed_end (job.Prepare c) own list p h = end_plain p h.2
-  freed_end (job.Resleep c) own list p h = either_plain (is_listed own list) (SleepWaiting c ∷ p) (resumed p) tt (end_plain p h.2)
-  freed_end (job.Signal c) own [] p h = end_plain p h.1
-  freed_end (job.Signal c) own (q ∷ rest) p h = tt
-  freed_end (job.Broadcast c) own [] p h = end_plain p h.2
-  freed_end (job.Broadcast c) own (q ∷ rest) p h = tt
-  freed_end (job.Rebroadcast c) own [] p h = end_plain p h.2
-  freed_end (job.Rebroadcast c) own (q ∷ rest) p h = either_plain (eqb q own) (resumed p) (Rousing c q (is_listed own rest) ∷ p) (end_plain p h.2) tt
-  freed_end (job.Attach b) own list p h = end_plain p h
-  freed_end (job.Detach b) own list p h = end_plain p h
+  freed_end : (j : Job) (own : ℕ) (list : List ℕ) (found : Record) (p : Place) → JobFits cvs t j p → IsPlain (top (goes_on j own list found p))
+  freed_end (job.Cancel c) own list found p h = cancel_end p h.2
+  freed_end (job.Prepare c) own list found p h = prepare_end c p h.2
+  freed_end (job.Resleep c) own list found p h = either_plain (is_listed own list) (SleepWaiting c ∷ p) (resumed p) tt (sleep_end c p h.2)
+  freed_end (job.Signal c) own [] found p h = end_plain p h.1
+  freed_end (job.Signal c) own (q ∷ rest) found p h = tt
+  freed_end (job.Broadcast c) own [] found p h = broadcast_end c p h.2
+  freed_end (job.Broadcast c) own (q ∷ rest) found p h = tt
+  freed_end (job.Rebroadcast c) own [] found p h = broadcast_end c p h.2
+  freed_end (job.Rebroadcast c) own (q ∷ rest) found p h = either_plain (eqb q own) (resumed p) (Rousing c q (is_listed own rest) ∷ p) (broadcast_end c p h.2) tt
+  freed_end (job.Attach b) own list found p h = end_plain p h
+  freed_end (job.Arrive b) own list found p h = either_plain (is_worn found) (resumed p) (cond (is_last found) (Passing b found.phase ∷ p) (Settling b found.phase ∷ p)) (end_plain p h.1) (either_plain (is_last found) (Passing b found.phase ∷ p) (Settling b found.phase ∷ p) tt tt)
+  freed_end (job.Notice b ph) own list found p h = either_plain (has_passed ph found) (Returning b ph ∷ p) (Dozing b ph ∷ p) tt tt
+  freed_end (job.Detach b) own list found p h = passes_end (is_awaited found) b found p h.1
+  freed_end (job.ArriveDetach b) own list found p h = either_plain (is_worn found) (resumed p) (passes_on (is_last found) b found p) (end_plain p h.1) (passes_end (is_last found) b found p h.1)
+  freed_end (job.ExceptLast b) own list found p h = end_plain p h
 
 -- a spin word of the table has a slot of the table's
 pub spot_inside : (z : Size) (x : Spot) → z.cvs ≤ most_conditions → IsSpot z x → slot_of x < slots_in z
 spot_inside z (Cv c) most ok = omega arith
 spot_inside z (Bar b) most ok = omega arith
 
--- a call that takes a spin word first has no other program around it
-sets_no_spot : (t : Option ℕ) (x : Spot) (q : ℕ) (c : Call) → takes_first t c ≡ Some x → SetsLatchOf q c → ⊥
-sets_no_spot t x q (call.Set r) is ok = cc
-sets_no_spot t x q c is ok = ok
+-- CALLS THAT STAND INSIDE NO OTHER
+abbrev pub IsAlone : Call → Type 0
+IsAlone (call.Set q) = ⊥
+IsAlone (call.Wait w) = ⊥
+IsAlone call.Cancel = ⊥
+IsAlone (call.Prepare c) = ⊥
+IsAlone (call.Sleep c) = ⊥
+IsAlone (call.Broadcast c) = ⊥
+IsAlone c = Unit {0}
 
-waits_no_spot : (t : Option ℕ) (x : Spot) (c : Call) → takes_first t c ≡ Some x → WaitsForLatch c → ⊥
-waits_no_spot t x (call.Wait w) is ok = cc
-waits_no_spot t x c is ok = ok
+pub alone_outside : (c : Call) (f : Frame) → IsAlone c → IsInside c f → ⊥
+alone_outside c (Signalling d q) alone ok = by_call c alone ok
+  where
+    by_call : (c : Call) → IsAlone c → SetsLatchOf q c → ⊥
+    by_call (call.Set r) alone ok = alone
+    by_call c alone ok = ok
+alone_outside c (Rousing d q more) alone ok = by_call c alone ok
+  where
+    by_call : (c : Call) → IsAlone c → SetsLatchOf q c → ⊥
+    by_call (call.Set r) alone ok = alone
+    by_call c alone ok = ok
+alone_outside c (SleepWaiting d) alone ok = by_call c alone ok
+  where
+    by_call : (c : Call) → IsAlone c → WaitsForLatch c → ⊥
+    by_call (call.Wait w) alone ok = alone
+    by_call c alone ok = ok
+alone_outside c (Settling b ph) alone ok = by_call c alone ok
+  where
+    by_call : (c : Call) → IsAlone c → PreparesOn b c → ⊥
+    by_call (call.Prepare d) alone ok = alone
+    by_call c alone ok = ok
+alone_outside c (Dozing b ph) alone ok = by_call c alone ok
+  where
+    by_call : (c : Call) → IsAlone c → SleepsOn b c → ⊥
+    by_call (call.Sleep d) alone ok = alone
+    by_call c alone ok = ok
+alone_outside c (Passing b ph) alone ok = by_call c alone ok
+  where
+    by_call : (c : Call) → IsAlone c → BroadcastsOn b c → ⊥
+    by_call (call.Broadcast d) alone ok = alone
+    by_call c alone ok = ok
+alone_outside c (Returning b ph) alone ok = by_call c alone ok
+  where
+    by_call : (c : Call) → IsAlone c → LeavesTarget c → ⊥
+    by_call call.Cancel alone ok = alone
+    by_call c alone ok = ok
+alone_outside c f alone ok = ok
 
-pub takes_idle : (t : Option ℕ) (x : Spot) (c : Call) (p : Place) → takes_first t c ≡ Some x → MayBegin c p → p ≡ []
-takes_idle t x c [] is ok = refl
-takes_idle t x c (Signalling d q ∷ p) is ok = absurd (sets_no_spot t x q c is ok)
-takes_idle t x c (Rousing d q more ∷ p) is ok = absurd (sets_no_spot t x q c is ok)
-takes_idle t x c (SleepWaiting d ∷ p) is ok = absurd (waits_no_spot t x c is ok)
-takes_idle t x c (f ∷ p) is ok = absurd ok
+pub alone_idle : (c : Call) (p : Place) → IsAlone c → MayBegin c p → p ≡ []
+alone_idle c [] alone ok = refl
+alone_idle c (f ∷ p) alone ok = absurd (alone_outside c f alone ok)
 
 -- a place with this innermost frame
 pub at_top : (p : Place) (f : Frame) → top p ≡ Some f → p ≡ f ∷ outer p
@@ -302,24 +374,22 @@ module _ (z : Size) (t : Option ℕ) where
   taken_plain true found j p = tt
   taken_plain false found j p = tt
 
-  entered_plain : (clear : Bool) (found : Kept) (c : Call) → IsPlain (top (taken clear found (entered t c [])))
-  entered_plain clear found c = by_target t c
-    where
-      by_target : (s : Option ℕ) (c : Call) → IsPlain (top (taken clear found (entered s c [])))
-      by_target None (call.Prepare c) = taken_plain clear found (job.Prepare c) []
-      by_target None (call.Sleep c) = taken_plain clear found (job.Prepare c) []
-      by_target None (call.Broadcast c) = taken_plain clear found (job.Broadcast c) []
-      by_target None (call.Signal c) = taken_plain clear found (job.Signal c) []
-      by_target (Some s) call.Cancel = taken_plain clear found (job.Cancel s) []
-      by_target (Some s) (call.Prepare c) = taken_plain clear found (job.Cancel s) (Preparing c ∷ [])
-      by_target (Some s) (call.Sleep c) = taken_plain clear found (job.Cancel s) (Preparing c ∷ [])
-      by_target (Some s) (call.Broadcast c) = taken_plain clear found (job.Cancel s) (Broadcasting c ∷ [])
-      by_target (Some s) (call.Signal c) = taken_plain clear found (job.Signal c) []
-      by_target None (call.Attach b) = taken_plain clear found (job.Attach b) []
-      by_target (Some s) (call.Attach b) = taken_plain clear found (job.Attach b) []
-      by_target None (call.Detach b) = taken_plain clear found (job.Detach b) []
-      by_target (Some s) (call.Detach b) = taken_plain clear found (job.Detach b) []
-      by_target s c = tt
+  -- a call begins by taking one
+  entered_plain : (x : Spot) (clear : Bool) (found : Kept) (s : Option ℕ) (c : Call) (p : Place) → takes_first s c ≡ Some x → IsPlain (top (taken clear found (entered s c p)))
+  entered_plain x clear found None (call.Prepare c) p is = taken_plain clear found (job.Prepare c) p
+  entered_plain x clear found None (call.Sleep c) p is = taken_plain clear found (job.Prepare c) p
+  entered_plain x clear found None (call.Broadcast c) p is = taken_plain clear found (job.Broadcast c) p
+  entered_plain x clear found (Some s) call.Cancel p is = taken_plain clear found (job.Cancel s) p
+  entered_plain x clear found (Some s) (call.Prepare c) p is = taken_plain clear found (job.Cancel s) (Preparing c ∷ p)
+  entered_plain x clear found (Some s) (call.Sleep c) p is = taken_plain clear found (job.Cancel s) (Preparing c ∷ p)
+  entered_plain x clear found (Some s) (call.Broadcast c) p is = taken_plain clear found (job.Cancel s) (Broadcasting c ∷ p)
+  entered_plain x clear found s (call.Signal c) p is = taken_plain clear found (job.Signal c) p
+  entered_plain x clear found s (call.Attach b) p is = taken_plain clear found (job.Attach b) p
+  entered_plain x clear found s (call.Arrive b) p is = taken_plain clear found (job.Arrive b) p
+  entered_plain x clear found s (call.Detach b) p is = taken_plain clear found (job.Detach b) p
+  entered_plain x clear found s (call.ArriveDetach b) p is = taken_plain clear found (job.ArriveDetach b) p
+  entered_plain x clear found s (call.ExceptLast b) p is = taken_plain clear found (job.ExceptLast b) p
+  entered_plain x clear found s c p is = absurd (cc)
 
   taken_effect : (x : Spot) (n : ℕ) (clear : Bool) (found : Kept) (p : Place) → MayTake x (top p) → Effect z (Take x None) n (top p) (top (taken clear found p))
   taken_effect x n clear found (Taking j ∷ p) ok = still (Take x None) n _ _ (plain_quiet _ tt) (plain_quiet _ (taken_plain clear found j p)) (λ b. refl)
@@ -330,7 +400,7 @@ module _ (z : Size) (t : Option ℕ) where
   spun_effect x n clear p ok = absurd ok
 
   freed_effect : (x : Spot) (after : Option ℕ) (own n : ℕ) (p : Place) → MayFree x after t (top p) → Fits z.cvs t p → Effect z (Free x after) n (top p) (top (freed own p))
-  freed_effect x after own n (Holding j list found ∷ p) ok fit = still (Free x after) n _ _ (plain_quiet _ tt) (plain_quiet _ (freed_end z.cvs t j own list p fit)) (λ b. refl)
+  freed_effect x after own n (Holding j list found ∷ p) ok fit = still (Free x after) n _ _ (plain_quiet _ tt) (plain_quiet _ (freed_end z.cvs t j own list found p fit)) (λ b. refl)
   freed_effect x after own n p ok fit = absurd ok
 
   -- each step, in a seat with this target
@@ -356,7 +426,7 @@ module _ (z : Size) (t : Option ℕ) where
         telling = λ j. inl (let x : bit (tells j (top p)) ≡ 0 = ap bit (h.telling j) in omega arith);
         stopping = λ j _. inl (let x : bit (stops j (top p)) ≡ 0 = ap bit (h.stopping j) in omega arith);
       }
-  effect (Take x (Some c)) own o n found p ok fit = still (Take x (Some c)) n _ _ (begin_quiet z.cvs t c p ok.3) (plain_quiet _ (subst (λ (q : Place). IsPlain (top (taken (eqb n 0) found (entered t c q)))) (sym (takes_idle t x c p ok.1 ok.3)) (entered_plain (eqb n 0) found c))) (λ b. refl)
+  effect (Take x (Some c)) own o n found p ok fit = still (Take x (Some c)) n _ _ (begin_quiet z.cvs t c p ok.3) (plain_quiet _ (entered_plain x (eqb n 0) found t c p ok.1)) (λ b. refl)
   effect (Take x None) own o n found p ok fit = taken_effect x n (eqb n 0) found p ok.1
   effect (Spin x) own o n found p ok fit = spun_effect x n (eqb n 0) p ok.1
   effect (Free x after) own o n found p ok fit = freed_effect x after o n p ok.1 fit

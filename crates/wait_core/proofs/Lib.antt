@@ -17,8 +17,11 @@ pub mod Fitting
 pub mod Hands
 pub mod InHand
 pub mod Records
+pub mod Attachments
 pub mod BarriersKept
 pub mod Attending
+pub mod Passing
+pub mod Arriving
 pub mod RuleKept
 pub mod Untouched
 pub mod SeatsKept

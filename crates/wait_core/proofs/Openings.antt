@@ -13,15 +13,15 @@ use Rattle.wait_core.specs.declared.view.PartyView.{PartyView}
 use Rattle.wait_core.specs.declared.view.Record.{Record}
 use Rattle.wait_core.specs.declared.view.Size.{Size}
 use Rattle.wait_core.specs.Meanings.{Meanings}
-use Rattle.wait_core.specs.Words.{most_conditions, slot_of, may_at, client_base, opening_phases, opened, opening_words}
+use Rattle.wait_core.specs.Words.{most_conditions, last_phase, slot_of, may_at, client_base, opening_phases, opened, opening_words}
 use Rattle.wait_core.specs.Machine.{WaitState, home_in}
-use Rattle.wait_core.specs.Parties.{newcomer, Barriers}
+use Rattle.wait_core.specs.Parties.{newcomer, Elected, Barriers}
 use Rattle.wait_core.specs.Seating.{Standing, fresh}
 use Rattle.wait_core.specs.Places.{may_sleep, past_latch, past_shutdown, backend_count}
 use Rattle.wait_core.specs.Fits.{PlacesFit}
 use Rattle.wait_core.specs.Slots.{opening_record, AllAsOpened, OpeningSlots}
 use Rattle.wait_core.specs.LeftAreFree.{LeftAreFree}
-use Rattle.wait_core.specs.Barriers.{Attendance, attendance_of, asks_at, phase_in, phases, IsHere, JobSuits}
+use Rattle.wait_core.specs.Barriers.{Attendance, attendance_of, waits_at, asks_at, field_of, phase_in, phases, KnowsPhases, IsWaiter, JobSuits}
 use Rattle.wait_core.specs.Promises.{IsOpening}
 use Rattle.wait_core.specs.Rule.{Rule}
 use Rattle.seat_roster.proofs.Numbers.{roster_first}
@@ -29,7 +29,7 @@ use Rattle.seat_roster.proofs.Stretches.{each_more}
 use Rattle.wait_core.proofs.ListsAreMade.{lists_made_open}
 use Rattle.wait_core.proofs.ListsKept.{lists_open}
 use Rattle.wait_core.proofs.Records.{opened_long}
-use Rattle.wait_core.proofs.BarriersKept.{barriers_more}
+use Rattle.wait_core.proofs.BarriersKept.{nobody_elected, barriers_more}
 use Rattle.wait_core.proofs.Untouched.{idle, idle_backend, places_snoc}
 
 first_place : (cvs : ℕ) → PlacesFit cvs (idle (Some 0) ∷ [])
@@ -94,9 +94,9 @@ module _ {C : Type 0} (means : Meanings C) (z : Size) (phase count : ℕ) (f : �
   abbrev start : Attendance C
   start = attendance_of (fresh c (Some 0))
 
-  pub opens : (xs : List Kept) → OpeningSlots z phase xs → 0 < z.procs → z.procs ≤ 64 → z.cvs ≤ most_conditions → means.holds (opened f count) (newcomer c (Some 0) ∷ []) (opening_phases z phase) → Rule means z phase count (opening (opening_words z f count) xs (fresh c (Some 0)))
-  opens xs new some most few kept = let stay = phases_open z phase xs c new in record {
-    sized = record { procs = (some, most); cvs = few; long = length-opening; slots = length-map xs maybe.some ∙ new.count };
+  pub opens : (xs : List Kept) → OpeningSlots z phase xs → 0 < z.procs → z.procs ≤ 64 → z.cvs ≤ most_conditions → z.bars ≤ z.cvs → phase ≤ last_phase → means.holds (opened f count) (newcomer c (Some 0) ∷ []) (opening_phases z phase) → Rule means z phase count (opening (opening_words z f count) xs (fresh c (Some 0)))
+  opens xs new some most few wide low kept = let stay = phases_open z phase xs c new in record {
+    sized = record { procs = (some, most); cvs = few; bars = wide; long = length-opening; slots = length-map xs maybe.some ∙ new.count };
     flags = λ i above below. let a = zero_at i above below in omega arith;
     roster = subst (λ (n : ℕ). Rattle.seat_roster.specs.Roster.Roster z.procs n (Rattle.seat_roster.specs.Roster.numbered (Some 0) ∷ [])) (sym one_at) (roster_first z.procs some);
     counted = let a = one_at in omega arith;
@@ -109,13 +109,19 @@ module _ {C : Type 0} (means : Meanings C) (z : Size) (phase count : ℕ) (f : �
     lists = lists_open z phase (opening_words z f count) xs zero_at new;
     left = only_numbered;
     barriers = subst (Barriers (newcomer c (Some 0) ∷ [])) (sym stay) (barriers_more [] (opening_phases z phase) c (Some 0) nobody);
-    here = each_more (IsHere (phases z (map maybe.some xs) (start ∷ []))) [] start (λ i v e. absurd (maybe.some-ne-none v (sym e))) (λ _ b ph e. absurd (cc));
+    known = each_more (KnowsPhases (phases z (map maybe.some xs) (start ∷ []))) [] start (λ i v e. absurd (maybe.some-ne-none v (sym e))) (λ b ph e. absurd (cc));
+    waiters = each_more (λ (u : Attendance C). (b ph : ℕ) → waits_at u.place ≡ Some (b, ph) → IsWaiter means u.party b ph) [] start (λ i v e. absurd (maybe.some-ne-none v (sym e))) (λ b ph e. absurd (cc));
     participants = λ b below. let e = opened_record z phase xs b below new in let p = ap (λ (k : Record). k.participants) e in omega arith;
-    reached = λ b below. let e = opened_record z phase xs b below new in let p = ap (λ (k : Record). k.phase) e in omega arith;
+    arrived = λ b below. let e = opened_record z phase xs b below new in let p = ap (λ (k : Record). k.arrived) e in omega arith;
+    elections = record {
+      past = λ b below. let e = opened_record z phase xs b below new in let p = ap (λ (k : Record). k.elected) e in let q = ap (λ (k : Record). k.phase) e in omega arith;
+      known = each_more (λ (u : Attendance C). (b ph : ℕ) → Elected u.party.elections b ph → (b < z.bars) × (ph ≤ field_of (λ r. r.elected) b (map maybe.some xs) (start ∷ []))) [] start (λ i v e. absurd (maybe.some-ne-none v (sym e))) (λ b ph won. absurd (nobody_elected b ph won));
+    };
+    inside = λ b below. let e = opened_record z phase xs b below new in let p = ap (λ (k : Record). k.phase) e in (omega arith, omega arith);
     suits = each_more (λ (u : Attendance C). JobSuits means (asks_at u.place) u.party) [] start (λ i v e. absurd (maybe.some-ne-none v (sym e))) tt;
     client = subst (λ (x : List ℕ × List ℕ). means.holds x.0 (newcomer c (Some 0) ∷ []) x.1) (λ i. (sym ((λ i. drop (sym long i) (machine ++ opened f count)) ∙ drop-append_seam machine (opened f count)) i, sym stay i)) kept;
   }
 
   -- so each state that is an opening does
   pub opening_kept : (s : WaitState C) → IsOpening c f means count z phase s → Rule means z phase count s
-  opening_kept s o = subst (Rule means z phase count) (sym o.is) (opens o.slots o.new o.procs.0 o.procs.1 o.cvs o.kept)
+  opening_kept s o = subst (Rule means z phase count) (sym o.is) (opens o.slots o.new o.procs.0 o.procs.1 o.cvs o.bars o.phase_inside o.kept)

@@ -42,6 +42,21 @@ pub opened_same : (f g : ℕ → ℕ) (n : ℕ) → ((i : ℕ) → i < n → g i
 opened_same f g zero h = refl
 opened_same f g (suc n) h = λ i. opened_same f g n (λ k below. h k (omega arith)) i ++ h n (omega arith) i ∷ []
 
+set_end : (l : List ℕ) (v x : ℕ) → set (l ++ v ∷ []) (length l) x ≡ l ++ x ∷ []
+set_end [] v x = refl
+set_end (y ∷ l) v x = ap (λ (xs : List ℕ). y ∷ xs) (set_end l v x)
+
+set_left : (l r : List ℕ) (i x : ℕ) → i < length l → set (l ++ r) i x ≡ set l i x ++ r
+set_left [] r i x below = absurd (omega arith)
+set_left (y ∷ l) r zero x below = refl
+set_left (y ∷ l) r (suc i) x below = ap (λ (xs : List ℕ). y ∷ xs) (set_left l r i x (omega arith))
+
+pub opened_set : (f g : ℕ → ℕ) (n b x : ℕ) → b < n → g b ≡ x → ((i : ℕ) → i < n → i ≢ b → g i ≡ f i) → opened g n ≡ set (opened f n) b x
+opened_set f g zero b x below here others = absurd (omega arith)
+opened_set f g (suc n) b x below here others = let long = opened_long f n in dite (ℕ_discrete b n)
+    (λ (e : b ≡ n). (λ i. opened_same f g n (λ k below. others k (omega arith) (λ h. omega arith)) i ++ (ap g (sym e) ∙ here) i ∷ []) ∙ (sym (set_end (opened f n) (f n) x) ∙ ap (λ (k : ℕ). set (opened f n ++ f n ∷ []) k x) (long ∙ sym e)))
+    (λ ne. (λ i. opened_set f g n b x (omega arith) here (λ k below other. others k (omega arith) other) i ++ others n (omega arith) (λ h. ne (sym h)) i ∷ []) ∙ sym (set_left (opened f n) (f n ∷ []) b x (omega arith)))
+
 -- HANDS. Who has no slot in hand has no record in hand
 pub held_none : (f : Record → ℕ) (x : ℕ) (p : Place) → slot_in (hand_at p) ≡ None → held_field f x p ≡ 0
 held_none f x (Holding j list found ∷ p) none = absurd (cc)

@@ -37,7 +37,7 @@ use Rattle.wait_core.proofs.MaySleepIsMarked.{may_kept}
 use Rattle.wait_core.proofs.SetLatchWakes.{latch_kept}
 use Rattle.wait_core.proofs.ShutdownWakes.{shutdown_kept}
 use Rattle.wait_core.proofs.WordsAreMade.{made_step}
-use Rattle.wait_core.proofs.Attending.{Owes, attended_step}
+use Rattle.wait_core.proofs.Arriving.{Owes, attended_step}
 
 -- each step is on a word between the next number and the client's
 pub word_inside : (z : Size) (o : ℕ) (k : WaitStep) → z.cvs ≤ most_conditions → (t : Option ℕ) (p : Place) → o < z.procs → Permits z k (Some o) t p → (0 < word_of z o k) × (word_of z o k < client_base z)
@@ -174,11 +174,11 @@ module _ {C : Type 0} (means : Meanings C) (z : Size) (phase count : ℕ) (s : W
       let numbers = sym (unseen numbers_of s.views id v w at refl) in
       let b = attended_step means z phase count s r laws id v o at own k inside.1 ok suits in
       record {
-        sized = record { procs = r.sized.procs; cvs = r.sized.cvs; long = length-set s.words i (becomes k n) ∙ long; slots = homes_long z k o n found v.place s.homes ∙ r.sized.slots };
+        sized = record { procs = r.sized.procs; cvs = r.sized.cvs; bars = r.sized.bars; long = length-set s.words i (becomes k n) ∙ long; slots = homes_long z k o n found v.place s.homes ∙ r.sized.slots };
         flags = flags_set z s.words i (becomes k n) r.flags (omega arith) (small_after k n (r.flags i inside.0 inside.1));
         roster = subst (λ (x : ℕ × List Numbers). Roster z.procs x.0 x.1) (λ j. (sym first j, numbers j)) r.roster;
         counted = subst (λ (x : ℕ × List Numbers). Rattle.wait_core.specs.Rule.SeatsAreCounted x.0 x.1) (λ j. (sym first j, numbers j)) r.counted;
-        places = places_set z.cvs s.views id v w o at r.places (subst (Fits z.cvs w.target) (sym goes) (fits_after z v.target k (Some o) o n found v.place ok target fit)) (target_kept z v.target k (Some o) v.place ok fit target) own;
+        places = places_set z.cvs s.views id v w o at r.places (subst (Fits z.cvs w.target) (sym goes) (fits_after z r.sized.bars v.target k (Some o) o n found v.place ok target fit)) (target_kept z v.target k (Some o) v.place ok fit target) own;
         may = subst (Rattle.wait_core.specs.MaySleepIsMarked.MaySleepIsMarked z.procs (set s.words i (becomes k n))) seen
             (may_kept z s.words (map standing_of s.views) one id o (standing_of v) (standing_of w) at' own own below (omega arith) r.may k e);
         latches = subst (Rattle.wait_core.specs.SetLatchWakes.SetLatchWakes z.procs (set s.words i (becomes k n))) seen
@@ -190,9 +190,12 @@ module _ {C : Type 0} (means : Meanings C) (z : Size) (phase count : ℕ) (s : W
         lists = lists_step z r.sized.cvs (get_or s.words 0 0) s.words s.homes s.views (omega arith) r.flags r.roster r.lists id v at o own below k ok fit (r.flags i inside.0 inside.1);
         left = b.left;
         barriers = b.barriers;
-        here = b.here;
+        known = b.known;
+        waiters = b.waiters;
         participants = b.participants;
-        reached = b.reached;
+        arrived = b.arrived;
+        elections = b.elections;
+        inside = b.inside;
         suits = b.suits;
         client = b.client;
       }

@@ -76,7 +76,7 @@ module _ {C : Type 0} (means : Meanings C) (z : Size) (phase count : ℕ) where
       (subst (λ (x : ℕ). means.holds (set (drop b s.words) k (f x)) (set (map party_of s.views) id (with_client (party_of v) (then x))) (phases_in z s)) found
       (law (drop b s.words) (map party_of s.views) (phases_in z s) r.client (is_step s r id v at p own idle)))) in
       record {
-        sized = record { procs = r.sized.procs; cvs = r.sized.cvs; long = length-set s.words (b + k) (f n) ∙ r.sized.long; slots = r.sized.slots };
+        sized = record { procs = r.sized.procs; cvs = r.sized.cvs; bars = r.sized.bars; long = length-set s.words (b + k) (f n) ∙ r.sized.long; slots = r.sized.slots };
         flags = flags_same z s.words (set s.words (b + k) (f n)) (map standing_of s.views) (map standing_of (set s.views id w)) agree same r.flags;
         roster = subst (λ (x : ℕ × List Numbers). Roster z.procs x.0 x.1) (λ j. (sym first j, numbers j)) r.roster;
         counted = subst (λ (x : ℕ × List Numbers). SeatsAreCounted x.0 x.1) (λ j. (sym first j, numbers j)) r.counted;
@@ -89,9 +89,12 @@ module _ {C : Type 0} (means : Meanings C) (z : Size) (phase count : ℕ) where
         lists = lists_apart z r.sized.cvs (get_or s.words 0 0) s.words s.homes s.views (omega (arith, r.sized.long)) r.flags r.roster r.lists id v at (b + k) (f n) w (is_client (omega arith)) refl;
         left = b'.left;
         barriers = b'.barriers;
-        here = b'.here;
+        known = b'.known;
+        waiters = b'.waiters;
         participants = b'.participants;
-        reached = b'.reached;
+        arrived = b'.arrived;
+        elections = b'.elections;
+        inside = b'.inside;
         suits = b'.suits;
         client = b'.client;
       }
@@ -110,7 +113,7 @@ module _ {C : Type 0} (means : Meanings C) (z : Size) (phase count : ℕ) where
       let b = unmoved means z phase s (attended means z phase count s r) id v w at (set s.words 0 x) s.homes (drop-set-lt (client_base z) s.words 0 x (omega arith)) refl
       (λ c below. field_same s.homes seats id (attendance_of v) (attendance_of w) seat (λ y. y.phase) c refl) (λ c below. field_same s.homes seats id (attendance_of v) (attendance_of w) seat (λ y. y.participants) c refl) (r.suits id (attendance_of v) seat) in
       record {
-        sized = record { procs = r.sized.procs; cvs = r.sized.cvs; long = length-set s.words 0 x ∙ long; slots = r.sized.slots };
+        sized = record { procs = r.sized.procs; cvs = r.sized.cvs; bars = r.sized.bars; long = length-set s.words 0 x ∙ long; slots = r.sized.slots };
         flags = flags_same z s.words (set s.words 0 x) (map standing_of s.views) (map standing_of (set s.views id w)) agree same r.flags;
         roster = subst (λ (y : ℕ × List Numbers). Roster z.procs y.0 y.1) (λ j. (sym first j, numbers j)) (roster_drew z.procs next ns r.roster id (numbers_of v) at' own free (omega arith));
         counted = subst (λ (y : ℕ × List Numbers). SeatsAreCounted y.0 y.1) (λ j. (sym first j, numbers j))

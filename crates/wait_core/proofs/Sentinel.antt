@@ -10,7 +10,7 @@ use Rattle.wait_core.specs.declared.view.Size.{Size}
 use Rattle.seat_roster.specs.Roster.{times}
 use Rattle.wait_core.specs.Words.{client_base, slots_in}
 use Rattle.wait_core.specs.Lists.{is_listed, is_empty, rest_of, without, precedes}
-use Rattle.wait_core.specs.Jobs.{rouses, rouses_on}
+use Rattle.wait_core.specs.Jobs.{resumed, rouses, rouses_on}
 use Rattle.wait_core.specs.Machine.{Place}
 use Rattle.wait_core.specs.Stances.{Stance, Homes, is_just, hand_at, sentinel_at, pops_at, times_on, order_on}
 use Rattle.wait_core.specs.TargetsAreListed.{TargetsAreListed}
@@ -56,26 +56,26 @@ module _ (p q o c : ℕ) (found left : List ℕ) (v w : Stance) (own : v.own ≡
 abbrev pub Goes : ℕ → ℕ → ℕ → List ℕ → Place → Type 0
 Goes p q c left place = (hand_at place ≡ None) × (((times p left ≡ 0) × (pops_at place ≡ Some p)) ⊎ ((sentinel_at place ≡ Some c) × (1 ≤ precedes p q left)))
 
-pub broadcast_goes : (p q c : ℕ) (list : List ℕ) → p ≢ q → times p list ≤ 1 → 1 ≤ times p list → Goes p q c (cond (is_empty (rest_of list)) [] (rest_of list ++ q ∷ [])) (rouses c list [])
-broadcast_goes p q c [] ne once there = absurd (omega arith)
-broadcast_goes p q c (x ∷ []) ne once there = dite (ℕ_discrete x p)
+pub broadcast_goes : (p q c : ℕ) (behind : Place) (list : List ℕ) → p ≢ q → times p list ≤ 1 → 1 ≤ times p list → Goes p q c (cond (is_empty (rest_of list)) [] (rest_of list ++ q ∷ [])) (rouses c list behind)
+broadcast_goes p q c behind [] ne once there = absurd (omega arith)
+broadcast_goes p q c behind (x ∷ []) ne once there = dite (ℕ_discrete x p)
     (λ (is : x ≡ p). (refl, inl (refl, ap Some is))) (λ (other : x ≢ p). let none = head_else p x other in absurd (omega arith))
-broadcast_goes p q c (x ∷ y ∷ rest) ne once there = dite (ℕ_discrete x p)
+broadcast_goes p q c behind (x ∷ y ∷ rest) ne once there = dite (ℕ_discrete x p)
     (λ (is : x ≡ p). let head = head_here p x is in let last = times_last p q (y ∷ rest) (λ e. ne (sym e)) in (refl, inl (omega arith, ap Some is)))
     (λ (other : x ≢ p). let none = head_else p x other in (refl, inr (refl, before_last p q (y ∷ rest) (omega arith))))
 
-pub rebroadcast_goes : (p q c : ℕ) (list : List ℕ) → p ≢ q → times p list ≤ 1 → times q list ≤ 1 → 1 ≤ precedes p q list → Goes p q c (rest_of list) (rouses_on c q list [])
-rebroadcast_goes p q c [] ne once alone there = absurd (omega arith)
-rebroadcast_goes p q c (x ∷ rest) ne once alone there = dite (ℕ_discrete x q)
+pub rebroadcast_goes : (p q c : ℕ) (behind : Place) (list : List ℕ) → p ≢ q → times p list ≤ 1 → times q list ≤ 1 → 1 ≤ precedes p q list → Goes p q c (rest_of list) (rouses_on c q list behind)
+rebroadcast_goes p q c behind [] ne once alone there = absurd (omega arith)
+rebroadcast_goes p q c behind (x ∷ rest) ne once alone there = dite (ℕ_discrete x q)
     (λ (is : x ≡ q). let same = precedes_popped p q x rest (λ e. ne (sym e ∙ is)) in let more = stands_behind p q rest (omega arith) in let head = head_here q x is in absurd (omega arith))
-    (λ (other : x ≢ q). subst (λ (b : Bool). Goes p q c rest (cond b [] (Rousing c x (is_listed q rest) ∷ []))) (sym (ne_eqb x q other)) (
+    (λ (other : x ≢ q). subst (λ (b : Bool). Goes p q c rest (cond b (resumed behind) (Rousing c x (is_listed q rest) ∷ behind))) (sym (ne_eqb x q other)) (
       refl,
       dite (ℕ_discrete x p)
           (λ (is : x ≡ p). let head = head_here p x is in inl (omega arith, ap Some is))
           (λ (apart : x ≢ p). let same = precedes_popped p q x rest apart in inr (by_test (is_listed q rest) refl (stands_behind p q rest (omega arith)), omega arith)),
     ))
   where
-    by_test : (b : Bool) → is_listed q rest ≡ b → 1 ≤ times q rest → sentinel_at (Rousing c x b ∷ []) ≡ Some c
+    by_test : (b : Bool) → is_listed q rest ≡ b → 1 ≤ times q rest → sentinel_at (Rousing c x b ∷ behind) ≡ Some c
     by_test true e some = refl
     by_test false e some = let none = not_listed q rest e in absurd (omega arith)
 

@@ -5,7 +5,7 @@ use mathlib.Core.Option as maybe
 use lib.ListN.{get_elem?}
 use Rattle.atomic_table.specs.Table.{keeps, takes as takes_out, homes_after}
 use Rattle.wait_core.specs.declared.step.Spot.{Spot}
-use Rattle.wait_core.specs.declared.step.Spot.TheVariants.{Cv}
+use Rattle.wait_core.specs.declared.step.Spot.TheVariants.{Cv, Bar}
 use Rattle.wait_core.specs.declared.step.Until.{Until}
 use Rattle.wait_core.specs.declared.step.Until.TheVariants.{Latch, LatchOrShutdown}
 use Rattle.wait_core.specs.declared.step.Call.{Call}
@@ -13,7 +13,7 @@ use Rattle.wait_core.specs.declared.step.Call.TheVariants as call
 use Rattle.wait_core.specs.declared.step.WaitStep.{WaitStep}
 use Rattle.wait_core.specs.declared.step.WaitStep.TheVariants.{Sload, Sset, Reset, Mstore, Mload, Byte, Look, Drain, Shload, Shstore, Take, Spin, Free}
 use Rattle.wait_core.specs.declared.view.Frame.{Frame}
-use Rattle.wait_core.specs.declared.view.Frame.TheVariants.{Setting, Telling, Waking, Announcing, Rechecking, CheckingShutdown, Looking, Asleep, Retracting, Draining, Repeating, LeavingSet, LeavingShutdown, Stopping, Taking, Spinning, Holding, Resetting, SleepWaiting, Preparing, Broadcasting, Signalling, Rousing}
+use Rattle.wait_core.specs.declared.view.Frame.TheVariants.{Setting, Telling, Waking, Announcing, Rechecking, CheckingShutdown, Looking, Asleep, Retracting, Draining, Repeating, LeavingSet, LeavingShutdown, Stopping, Taking, Spinning, Holding, Resetting, SleepWaiting, Preparing, Broadcasting, Signalling, Rousing, Settling, Dozing, Passing, Returning}
 use Rattle.wait_core.specs.declared.view.Job.{Job}
 use Rattle.wait_core.specs.declared.view.Job.TheVariants as job
 use Rattle.wait_core.specs.declared.view.Kept.{Kept}
@@ -22,11 +22,11 @@ use Rattle.wait_core.specs.declared.view.Size.{Size}
 use Rattle.wait_core.specs.declared.view.WaitView.{WaitView}
 use Rattle.wait_core.specs.Words.{most_conditions, set_at, may_at, byte_at, shut_at, slot_of, spin_at, slots_in}
 use Rattle.wait_core.specs.Lists.{is_listed}
-use Rattle.wait_core.specs.Jobs.{spot_of, left_list, left_record, target_after, heeds_after, resumed, goes_on}
-use Rattle.wait_core.specs.Machine.{Place, top, outer, number_of, word_of, becomes, begun, reloaded, marked, woken, looked, drained, reset, entered, as_kept, taken, spun, place_then, target_then, heeds_then, home_of, home_in, slot_number, act_of, carried, SetsLatchOf, WaitsForLatch, IsInside, MayBegin, BeginsLoad, takes_first, MayReload, MayMark, MayWake, MayLook, MayDrain, MayReset, MayTake, MaySpin, MayFree, Permits, next_with}
-use Rattle.wait_core.specs.Fits.{BehindSet, BehindWait, BehindCancel, JobFits, Fits}
-use Rattle.wait_core.specs.Stances.{Stance, Homes, hand_at, belongs_at, heeds_at, pops_at, stance_of}
-use Rattle.wait_core.proofs.Effects.{spot_inside}
+use Rattle.wait_core.specs.Jobs.{spot_of, is_worn, is_last, is_awaited, has_passed, left_list, left_record, target_after, heeds_after, resumed, passes_on, goes_on}
+use Rattle.wait_core.specs.Machine.{Place, top, outer, number_of, word_of, becomes, begun, reloaded, marked, woken, looked, drained, reset, entered, as_kept, taken, spun, place_then, target_then, heeds_then, home_of, home_in, slot_number, act_of, carried, IsInside, MayBegin, BeginsLoad, takes_first, MayReload, MayMark, MayWake, MayLook, MayDrain, MayReset, MayTake, MaySpin, MayFree, Permits, next_with}
+use Rattle.wait_core.specs.Fits.{BehindPrepare, BehindSleep, BehindBroadcast, BehindSet, BehindWait, BehindCancel, JobFits, Fits}
+use Rattle.wait_core.specs.Stances.{Stance, Homes, hand_at, sentinel_at, belongs_at, heeds_at, pops_at, stance_of}
+use Rattle.wait_core.proofs.Effects.{spot_inside, IsAlone, alone_outside, alone_idle}
 use Rattle.wait_core.proofs.Lists.{listed_there, not_listed}
 use Rattle.wait_core.proofs.Turns.{reads, latches, marks, wakes, shuts, Sends, returns, stays_listed, joins, leaves, pops, signs, ends, Turn, stays, reaches, resets, takes, frees, idle}
 
@@ -47,13 +47,6 @@ at_top : (P : Place → Type 0) (p : Place) (f : Frame) → top p ≡ Some f →
 at_top P [] f e h = absurd (cc)
 at_top P (g ∷ p) f e h = let is : f ≡ g = cc in subst (λ (x : Frame). P (x ∷ p)) is h
 
--- a call that neither sets a latch nor waits for it begins inside no other
-outside : (c : Call) → ((q : ℕ) → SetsLatchOf q c → ⊥) → (WaitsForLatch c → ⊥) → (f : Frame) → IsInside c f → ⊥
-outside c sets waits (Signalling d q) may = sets q may
-outside c sets waits (Rousing d q more) may = sets q may
-outside c sets waits (SleepWaiting d) may = waits may
-outside c sets waits f may = may
-
 module _ (own t : Option ℕ) (h : Bool) where
   abbrev at_place : Place → Stance
   at_place p = stance own t h p
@@ -67,9 +60,26 @@ module _ (own t : Option ℕ) (h : Bool) where
   idle_ended [] e = refl
   idle_ended (f ∷ p) e = absurd (cc)
 
-  roused_ended : (c q : ℕ) (more : Bool) (p : Place) → p ≡ [] → at_place (cond more (Taking (job.Rebroadcast c) ∷ p) (resumed p)) ≡ quiet (Rousing c q more ∷ p)
-  roused_ended c q true p e = refl
-  roused_ended c q false p e = idle_ended p e
+  prepare_ended : (c : ℕ) (p : Place) → BehindPrepare c p → at_place (resumed p) ≡ quiet p
+  prepare_ended c [] fits = refl
+  prepare_ended c (Settling b ph ∷ []) fits = refl
+  prepare_ended c (Settling b ph ∷ f ∷ p) fits = absurd (let e = fits.1 in cc)
+  prepare_ended c p fits = absurd fits
+
+  sleep_ended : (c : ℕ) (p : Place) → BehindSleep c p → at_place (resumed p) ≡ quiet p
+  sleep_ended c [] fits = refl
+  sleep_ended c (Dozing b ph ∷ []) fits = refl
+  sleep_ended c (Dozing b ph ∷ f ∷ p) fits = absurd (let e = fits.1 in cc)
+  sleep_ended c p fits = absurd fits
+
+  broadcast_ended : (c : ℕ) (p : Place) → BehindBroadcast c p → at_place (resumed p) ≡ quiet p
+  broadcast_ended c [] fits = refl
+  broadcast_ended c (Passing b ph ∷ p) fits = idle_ended p fits.1
+  broadcast_ended c p fits = absurd fits
+
+  roused_ended : (c q : ℕ) (more : Bool) (p : Place) → BehindBroadcast c p → at_place (cond more (Taking (job.Rebroadcast c) ∷ p) (resumed p)) ≡ quiet (Rousing c q more ∷ p)
+  roused_ended c q true p fits = refl
+  roused_ended c q false p fits = broadcast_ended c p fits
 
   set_ended : (cvs q : ℕ) (p : Place) → BehindSet cvs t q p → at_place (resumed p) ≡ quiet p
   set_ended cvs q [] fits = refl
@@ -127,7 +137,7 @@ module _ (own t : Option ℕ) (h : Bool) where
 
   stopping_same : (p : Place) → MayBegin call.Shut p → at_place (Stopping 0 ∷ p) ≡ at_place p
   stopping_same [] ok = refl
-  stopping_same (f ∷ p) ok = absurd (outside call.Shut (λ q h. h) (λ h. h) f ok)
+  stopping_same (f ∷ p) ok = absurd (alone_outside call.Shut f tt ok)
 
   spun_same : (b : Bool) (x : Spot) (p : Place) → MaySpin x (top p) → at_place (spun b p) ≡ at_place p
   spun_same true x (Spinning j ∷ p) ok = refl
@@ -142,92 +152,157 @@ module _ (own t : Option ℕ) (h : Bool) where
 reset_heeds : (own : Option ℕ) (h : Bool) (c : ℕ) (p : Place) → stance own (Some c) h (Taking (job.Resleep c) ∷ p) ≡ record (stance own (Some c) h (Resetting c ∷ p)) { heeds = None }
 reset_heeds own h c p = λ i. record (stance own (Some c) h (Resetting c ∷ p)) { heeds = no_heeds h i }
 
--- a call begins by taking a spin word
-pub enters : (own t : Option ℕ) (h : Bool) (c : Call) (x : Spot) (p : Place) → takes_first t c ≡ Some x → MayBegin c p → EntersAt own t h x p (entered t c p)
-enters own (Some s) h call.Cancel x [] at may = (job.Cancel s, [], refl, (cc), refl)
-enters own (Some s) h call.Cancel x (f ∷ p) at may = absurd (outside call.Cancel (λ q h. h) (λ h. h) f may)
-enters own None h call.Cancel x p at may = absurd (cc)
-enters own (Some s) h (call.Prepare c) x [] at may = (job.Cancel s, Preparing c ∷ [], refl, (cc), refl)
-enters own (Some s) h (call.Prepare c) x (f ∷ p) at may = absurd (outside (call.Prepare c) (λ q h. h) (λ h. h) f may)
-enters own None h (call.Prepare c) x [] at may = (job.Prepare c, [], refl, (cc), refl)
-enters own None h (call.Prepare c) x (f ∷ p) at may = absurd (outside (call.Prepare c) (λ q h. h) (λ h. h) f may)
-enters own (Some s) h (call.Sleep c) x [] at may = (job.Cancel s, Preparing c ∷ [], refl, by_target (eqb s c) at, refl)
+-- where a sleep only prepares its condition isn't the target
+other_target : (s c : ℕ) (x : Spot) → takes_first (Some s) (call.Sleep c) ≡ Some x → Cv s ≡ x
+other_target s c x at = by_target (eqb s c) at
   where
     by_target : (b : Bool) → cond b None (Some (Cv s)) ≡ Some x → Cv s ≡ x
     by_target true e = absurd (cc)
     by_target false e = (cc)
-enters own (Some s) h (call.Sleep c) x (f ∷ p) at may = absurd (outside (call.Sleep c) (λ q h. h) (λ h. h) f may)
-enters own None h (call.Sleep c) x [] at may = (job.Prepare c, [], refl, (cc), refl)
-enters own None h (call.Sleep c) x (f ∷ p) at may = absurd (outside (call.Sleep c) (λ q h. h) (λ h. h) f may)
-enters own (Some s) h (call.Signal c) x [] at may = (job.Signal c, [], refl, (cc), refl)
-enters own None h (call.Signal c) x [] at may = (job.Signal c, [], refl, (cc), refl)
-enters own t h (call.Signal c) x (f ∷ p) at may = absurd (outside (call.Signal c) (λ q h. h) (λ h. h) f may)
-enters own (Some s) h (call.Broadcast c) x [] at may = (job.Cancel s, Broadcasting c ∷ [], refl, (cc), refl)
-enters own None h (call.Broadcast c) x [] at may = (job.Broadcast c, [], refl, (cc), refl)
-enters own t h (call.Broadcast c) x (f ∷ p) at may = absurd (outside (call.Broadcast c) (λ q h. h) (λ h. h) f may)
-enters own (Some s) h (call.Attach b) x [] at may = (job.Attach b, [], refl, (cc), refl)
-enters own None h (call.Attach b) x [] at may = (job.Attach b, [], refl, (cc), refl)
-enters own t h (call.Attach b) x (f ∷ p) at may = absurd (outside (call.Attach b) (λ q h. h) (λ h. h) f may)
-enters own (Some s) h (call.Detach b) x [] at may = (job.Detach b, [], refl, (cc), refl)
-enters own None h (call.Detach b) x [] at may = (job.Detach b, [], refl, (cc), refl)
-enters own t h (call.Detach b) x (f ∷ p) at may = absurd (outside (call.Detach b) (λ q h. h) (λ h. h) f may)
-enters own (Some s) h c x p at may = absurd (cc)
-enters own None h c x p at may = absurd (cc)
+
+-- a call that stands inside no other
+alone_enters : (own t : Option ℕ) (h : Bool) (j : Job) (c : Call) (x : Spot) (p : Place) → IsAlone c → MayBegin c p → spot_of j ≡ x → stance own t h (Taking j ∷ []) ≡ stance own t h [] → EntersAt own t h x p (Taking j ∷ p)
+alone_enters own t h j c x p alone may is same = (j, p, refl, is, subst (λ (q : Place). stance own t h (Taking j ∷ q) ≡ stance own t h q) (sym (alone_idle c p alone may)) same)
+
+-- a call begins by taking a spin word: the place says the same of lists as before
+pub enters : (cvs : ℕ) (own t : Option ℕ) (h : Bool) (c : Call) (x : Spot) (p : Place) → takes_first t c ≡ Some x → MayBegin c p → Fits cvs t p → EntersAt own t h x p (entered t c p)
+enters cvs own (Some s) h call.Cancel x [] at may fits = (job.Cancel s, [], refl, (cc), refl)
+enters cvs own (Some s) h call.Cancel x (Returning b ph ∷ p) at may fits = (job.Cancel s, Returning b ph ∷ p, refl, (cc), refl)
+enters cvs own (Some s) h call.Cancel x (f ∷ p) at may fits = absurd may
+enters cvs own None h call.Cancel x p at may fits = absurd (cc)
+enters cvs own (Some s) h (call.Prepare c) x [] at may fits = (job.Cancel s, Preparing c ∷ [], refl, (cc), refl)
+enters cvs own (Some s) h (call.Prepare c) x (Settling b ph ∷ p) at may fits = (job.Cancel s, Preparing c ∷ Settling b ph ∷ p, refl, (cc), refl)
+enters cvs own (Some s) h (call.Prepare c) x (f ∷ p) at may fits = absurd may
+enters cvs own None h (call.Prepare c) x [] at may fits = (job.Prepare c, [], refl, (cc), refl)
+enters cvs own None h (call.Prepare c) x (Settling b ph ∷ []) at may fits = (job.Prepare c, Settling b ph ∷ [], refl, (cc), refl)
+enters cvs own None h (call.Prepare c) x (Settling b ph ∷ f ∷ p) at may fits = absurd (let e = fits.1 in cc)
+enters cvs own None h (call.Prepare c) x (f ∷ p) at may fits = absurd may
+enters cvs own (Some s) h (call.Sleep c) x [] at may fits = (job.Cancel s, Preparing c ∷ [], refl, other_target s c x at, refl)
+enters cvs own (Some s) h (call.Sleep c) x (Dozing b ph ∷ p) at may fits = (job.Cancel s, Preparing c ∷ Dozing b ph ∷ p, refl, other_target s c x at, refl)
+enters cvs own (Some s) h (call.Sleep c) x (f ∷ p) at may fits = absurd may
+enters cvs own None h (call.Sleep c) x [] at may fits = (job.Prepare c, [], refl, (cc), refl)
+enters cvs own None h (call.Sleep c) x (Dozing b ph ∷ p) at may fits = absurd (let e = fits.1 in cc)
+enters cvs own None h (call.Sleep c) x (f ∷ p) at may fits = absurd may
+enters cvs own (Some s) h (call.Broadcast c) x [] at may fits = (job.Cancel s, Broadcasting c ∷ [], refl, (cc), refl)
+enters cvs own (Some s) h (call.Broadcast c) x (Passing b ph ∷ p) at may fits = (job.Cancel s, Broadcasting c ∷ Passing b ph ∷ p, refl, (cc), refl)
+enters cvs own (Some s) h (call.Broadcast c) x (f ∷ p) at may fits = absurd may
+enters cvs own None h (call.Broadcast c) x [] at may fits = (job.Broadcast c, [], refl, (cc), refl)
+enters cvs own None h (call.Broadcast c) x (Passing b ph ∷ []) at may fits = (job.Broadcast c, Passing b ph ∷ [], refl, (cc), refl)
+enters cvs own None h (call.Broadcast c) x (Passing b ph ∷ f ∷ p) at may fits = absurd (let e = fits.1 in cc)
+enters cvs own None h (call.Broadcast c) x (f ∷ p) at may fits = absurd may
+enters cvs own t h (call.Signal c) x p at may fits = alone_enters own t h (job.Signal c) (call.Signal c) x p tt may (cc) refl
+enters cvs own t h (call.Attach b) x p at may fits = alone_enters own t h (job.Attach b) (call.Attach b) x p tt may (cc) refl
+enters cvs own t h (call.Arrive b) x p at may fits = alone_enters own t h (job.Arrive b) (call.Arrive b) x p tt may (cc) refl
+enters cvs own t h (call.Detach b) x p at may fits = alone_enters own t h (job.Detach b) (call.Detach b) x p tt may (cc) refl
+enters cvs own t h (call.ArriveDetach b) x p at may fits = alone_enters own t h (job.ArriveDetach b) (call.ArriveDetach b) x p tt may (cc) refl
+enters cvs own t h (call.ExceptLast b) x p at may fits = alone_enters own t h (job.ExceptLast b) (call.ExceptLast b) x p tt may (cc) refl
+enters cvs own t h c x p at may fits = absurd (cc)
 
 -- THE FREES. The seat left a list
 cancel_ended : (cvs : ℕ) (own t : Option ℕ) (h : Bool) (p : Place) → BehindCancel cvs t p → stance own None h (resumed p) ≡ idle own
 cancel_ended cvs own t h [] fits = λ i. record (idle own) { heeds = no_heeds h i }
 cancel_ended cvs own t h (Preparing c ∷ p) fits = λ i. record (idle own) { heeds = no_heeds h i }
 cancel_ended cvs own t h (Broadcasting c ∷ p) fits = λ i. record (idle own) { heeds = no_heeds h i }
+cancel_ended cvs own t h (Returning b ph ∷ []) fits = λ i. record (idle own) { heeds = no_heeds h i }
+cancel_ended cvs own t h (Returning b ph ∷ f ∷ p) fits = absurd (cc)
 cancel_ended cvs own t h p fits = absurd fits
 
 module _ (cvs o : ℕ) (h : Bool) (found : Record) where
   abbrev SendsAt : Job → List ℕ → Option ℕ → Place → Type 0
-  SendsAt j list t p = Sends o (slot_of (spot_of j)) list (left_list j o list) (stance (Some o) t h (Holding j list found ∷ p)) (stance (Some o) (target_after j t) (heeds_after j o list h) (goes_on j o list p))
+  SendsAt j list t p = Sends o (slot_of (spot_of j)) list (left_list j o list) (stance (Some o) t h (Holding j list found ∷ p)) (stance (Some o) (target_after j t) (heeds_after j o list h) (goes_on j o list found p))
 
   cancel_sends : (c : ℕ) (list : List ℕ) (t : Option ℕ) (p : Place) → BehindCancel cvs t p → SendsAt (job.Cancel c) list (Some c) p
   cancel_sends c list t p fits = leaves refl refl (cancel_ended cvs (Some o) t h p fits)
 
-  resleep_sends : (c : ℕ) (list : List ℕ) → SendsAt (job.Resleep c) list (Some c) []
-  resleep_sends c list = by_test (is_listed o list) refl
+  prepare_sends : (c : ℕ) (list : List ℕ) (p : Place) → BehindPrepare c p → SendsAt (job.Prepare c) list None p
+  prepare_sends c list p fits = joins refl (inl refl) (prepare_ended (Some o) (Some c) true c p fits)
+
+  resleep_sends : (c : ℕ) (list : List ℕ) (p : Place) → BehindSleep c p → SendsAt (job.Resleep c) list (Some c) p
+  resleep_sends c list p fits = by_test (is_listed o list) refl
     where
       by_test : (b : Bool) → is_listed o list ≡ b
-          → Sends o c list (cond b list (list ++ o ∷ [])) (stance (Some o) (Some c) h (Holding (job.Resleep c) list found ∷ [])) (stance (Some o) (Some c) (cond b h true) (cond b (SleepWaiting c ∷ []) []))
+          → Sends o c list (cond b list (list ++ o ∷ [])) (stance (Some o) (Some c) h (Holding (job.Resleep c) list found ∷ p)) (stance (Some o) (Some c) (cond b h true) (cond b (SleepWaiting c ∷ p) (resumed p)))
       by_test true e = stays_listed h refl (listed_there o list e) refl
-      by_test false e = joins refl (inr (refl, not_listed o list e)) refl
+      by_test false e = joins refl (inr (refl, not_listed o list e)) (sleep_ended (Some o) (Some c) true c p fits)
 
   signal_sends : (c : ℕ) (list : List ℕ) (t : Option ℕ) → SendsAt (job.Signal c) list t []
   signal_sends c [] t = returns (belongs_at t []) refl (inl refl) refl
   signal_sends c (q ∷ rest) t = pops q (belongs_at t []) refl (inl refl) refl
 
-  broadcast_sends : (c : ℕ) (list : List ℕ) → SendsAt (job.Broadcast c) list None []
-  broadcast_sends c [] = returns None refl (inl refl) refl
-  broadcast_sends c (q ∷ []) = pops q None refl (inl refl) refl
-  broadcast_sends c (q ∷ r ∷ rest) = signs q (r ∷ rest) refl refl refl (no_heeds h) refl
+  -- a broadcast, in no call or inside one
+  module _ (c : ℕ) (p : Place) (fits : BehindBroadcast c p) where
+    no_sentinel : sentinel_at p ≡ None
+    no_sentinel = by_place p fits
+      where
+        by_place : (p : Place) → BehindBroadcast c p → sentinel_at p ≡ None
+        by_place [] h = refl
+        by_place (Passing b ph ∷ p) h = ap sentinel_at h.1
+        by_place p h = absurd h
 
-  rebroadcast_sends : (c : ℕ) (list : List ℕ) → SendsAt (job.Rebroadcast c) list None []
-  rebroadcast_sends c [] = returns None refl (inr (refl, refl, refl)) refl
-  rebroadcast_sends c (q ∷ rest) = by_head (eqb q o) refl (is_listed o rest) refl
-    where
-      by_head : (b : Bool) → eqb q o ≡ b → (d : Bool) → is_listed o rest ≡ d
-          → Sends o c (q ∷ rest) rest (stance (Some o) None h (Holding (job.Rebroadcast c) (q ∷ rest) found ∷ [])) (stance (Some o) None h (cond b [] (Rousing c q d ∷ [])))
-      by_head true e d f = ends (ap (λ (n : ℕ). n ∷ rest) (eqb-true q o e)) refl (no_heeds h) refl
-      by_head false e true f = pops q (Some c) refl (inl refl) refl
-      by_head false e false f = pops q None refl (inr (refl, refl, not_listed o rest f)) refl
+    -- the seat at rest, when the broadcast ended and while it sets the latch of q
+    abbrev at_rest : Stance
+    at_rest = record { own = Some o; hand = None; belongs = None; heeds = cond h None None; pops = None }
 
-  -- where nothing stands behind, and the target is this
-  alone_at : (j : Job) (list : List ℕ) (t u : Option ℕ) (p : Place) → t ≡ u → p ≡ [] → SendsAt j list u [] → SendsAt j list t p
-  alone_at j list t u p e none sends = subst (λ (x : Option ℕ). SendsAt j list x p) (sym e) (subst (λ (q : Place). SendsAt j list u q) (sym none) sends)
+    ended : stance (Some o) None h (resumed p) ≡ at_rest
+    ended = broadcast_ended (Some o) None h c p fits ∙ (λ i. record at_rest { belongs = no_sentinel i })
+
+    roused : (q : ℕ) → stance (Some o) None h (Rousing c q false ∷ p) ≡ record at_rest { pops = Some q }
+    roused q = λ i. record at_rest { pops = Some q; belongs = no_sentinel i }
+
+    broadcast_sends : (list : List ℕ) → SendsAt (job.Broadcast c) list None p
+    broadcast_sends [] = returns None refl (inl refl) ended
+    broadcast_sends (q ∷ []) = pops q None refl (inl refl) (roused q)
+    broadcast_sends (q ∷ r ∷ rest) = signs q (r ∷ rest) refl refl refl (no_heeds h) refl
+
+    rebroadcast_sends : (list : List ℕ) → SendsAt (job.Rebroadcast c) list None p
+    rebroadcast_sends [] = returns None refl (inr (refl, refl, refl)) ended
+    rebroadcast_sends (q ∷ rest) = by_head (eqb q o) refl (is_listed o rest) refl
+      where
+        by_head : (b : Bool) → eqb q o ≡ b → (d : Bool) → is_listed o rest ≡ d
+            → Sends o c (q ∷ rest) rest (stance (Some o) None h (Holding (job.Rebroadcast c) (q ∷ rest) found ∷ p)) (stance (Some o) None h (cond b (resumed p) (Rousing c q d ∷ p)))
+        by_head true e d f = ends (ap (λ (n : ℕ). n ∷ rest) (eqb-true q o e)) refl (no_heeds h) ended
+        by_head false e true f = pops q (Some c) refl (inl refl) refl
+        by_head false e false f = pops q None refl (inr (refl, refl, not_listed o rest f)) (roused q)
+
+  -- where the target is this
+  of_target : (j : Job) (list : List ℕ) (t u : Option ℕ) (p : Place) → t ≡ u → SendsAt j list u p → SendsAt j list t p
+  of_target j list t u p e sends = subst (λ (x : Option ℕ). SendsAt j list x p) (sym e) sends
+
+  -- where nothing stands behind
+  alone_at : (j : Job) (list : List ℕ) (t : Option ℕ) (p : Place) → p ≡ [] → SendsAt j list t [] → SendsAt j list t p
+  alone_at j list t p none sends = subst (λ (q : Place). SendsAt j list t q) (sym none) sends
 
   freed_sends : (j : Job) (list : List ℕ) (t : Option ℕ) (p : Place) → JobFits cvs t j p → SendsAt j list t p
-  freed_sends (job.Cancel c) list t p fits = subst (λ (x : Option ℕ). SendsAt (job.Cancel c) list x p) (sym fits.1) (cancel_sends c list t p fits.2)
-  freed_sends (job.Prepare c) list t p fits = alone_at (job.Prepare c) list t None p fits.1 fits.2 (joins refl (inl refl) refl)
-  freed_sends (job.Resleep c) list t p fits = alone_at (job.Resleep c) list t (Some c) p fits.1 fits.2 (resleep_sends c list)
-  freed_sends (job.Signal c) list t p fits = alone_at (job.Signal c) list t t p refl fits.1 (signal_sends c list t)
-  freed_sends (job.Broadcast c) list t p fits = alone_at (job.Broadcast c) list t None p fits.1 fits.2 (broadcast_sends c list)
-  freed_sends (job.Rebroadcast c) list t p fits = alone_at (job.Rebroadcast c) list t None p fits.1 fits.2 (rebroadcast_sends c list)
-  freed_sends (job.Attach b) list t p fits = alone_at (job.Attach b) list t t p refl fits (returns (belongs_at t []) refl (inl refl) refl)
-  freed_sends (job.Detach b) list t p fits = alone_at (job.Detach b) list t t p refl fits (returns (belongs_at t []) refl (inl refl) refl)
+  freed_sends (job.Cancel c) list t p fits = of_target (job.Cancel c) list t (Some c) p fits.1 (cancel_sends c list t p fits.2)
+  freed_sends (job.Prepare c) list t p fits = of_target (job.Prepare c) list t None p fits.1 (prepare_sends c list p fits.2)
+  freed_sends (job.Resleep c) list t p fits = of_target (job.Resleep c) list t (Some c) p fits.1 (resleep_sends c list p fits.2)
+  freed_sends (job.Signal c) list t p fits = alone_at (job.Signal c) list t p fits.1 (signal_sends c list t)
+  freed_sends (job.Broadcast c) list t p fits = of_target (job.Broadcast c) list t None p fits.1 (broadcast_sends c p fits.2 list)
+  freed_sends (job.Rebroadcast c) list t p fits = of_target (job.Rebroadcast c) list t None p fits.1 (rebroadcast_sends c p fits.2 list)
+  freed_sends (job.Attach b) list t p fits = alone_at (job.Attach b) list t p fits (returns (belongs_at t []) refl (inl refl) refl)
+  freed_sends (job.Arrive b) list t p fits = alone_at (job.Arrive b) list t p fits.1 (by_test (is_worn found) (is_last found))
+    where
+      by_test : (worn last : Bool) → Sends o (slot_of (Bar b)) list list (stance (Some o) t h (Holding (job.Arrive b) list found ∷ [])) (stance (Some o) t h (cond worn [] (cond last (Passing b found.phase ∷ []) (Settling b found.phase ∷ []))))
+      by_test true last = returns (belongs_at t []) refl (inl refl) refl
+      by_test false true = returns (belongs_at t []) refl (inl refl) refl
+      by_test false false = returns (belongs_at t []) refl (inl refl) refl
+  freed_sends (job.Notice b ph) list t p fits = alone_at (job.Notice b ph) list t p fits.2 (by_test (has_passed ph found))
+    where
+      by_test : (passed : Bool) → Sends o (slot_of (Bar b)) list list (stance (Some o) t h (Holding (job.Notice b ph) list found ∷ [])) (stance (Some o) t h (cond passed (Returning b ph ∷ []) (Dozing b ph ∷ [])))
+      by_test true = returns (belongs_at t []) refl (inl refl) refl
+      by_test false = returns (belongs_at t []) refl (inl refl) refl
+  freed_sends (job.Detach b) list t p fits = alone_at (job.Detach b) list t p fits.1 (by_test (is_awaited found))
+    where
+      by_test : (passes : Bool) → Sends o (slot_of (Bar b)) list list (stance (Some o) t h (Holding (job.Detach b) list found ∷ [])) (stance (Some o) t h (passes_on passes b found []))
+      by_test true = returns (belongs_at t []) refl (inl refl) refl
+      by_test false = returns (belongs_at t []) refl (inl refl) refl
+  freed_sends (job.ArriveDetach b) list t p fits = alone_at (job.ArriveDetach b) list t p fits.1 (by_test (is_worn found) (is_last found))
+    where
+      by_test : (worn passes : Bool) → Sends o (slot_of (Bar b)) list list (stance (Some o) t h (Holding (job.ArriveDetach b) list found ∷ [])) (stance (Some o) t h (cond worn [] (passes_on passes b found [])))
+      by_test true passes = returns (belongs_at t []) refl (inl refl) refl
+      by_test false true = returns (belongs_at t []) refl (inl refl) refl
+      by_test false false = returns (belongs_at t []) refl (inl refl) refl
+  freed_sends (job.ExceptLast b) list t p fits = alone_at (job.ExceptLast b) list t p fits (returns (belongs_at t []) refl (inl refl) refl)
 
 -- THE STEPS
 module _ (z : Size) (most : z.cvs ≤ most_conditions) (words : List ℕ) (homes : Homes) (o : ℕ) (below : o < z.procs) where
@@ -258,11 +333,14 @@ module _ (z : Size) (most : z.cvs ≤ most_conditions) (words : List ℕ) (homes
     begun_turned q (call.Wait Latch) b (f ∷ p) one ok may fits = absurd may
     begun_turned q (call.Wait LatchOrShutdown) true [] one ok may fits = stays (reads refl) refl refl
     begun_turned q (call.Wait LatchOrShutdown) false [] one ok may fits = stays (reads refl) refl refl
-    begun_turned q (call.Wait LatchOrShutdown) b (f ∷ p) one ok may fits = absurd (outside (call.Wait LatchOrShutdown) (λ q h. h) (λ h. h) f may)
+    begun_turned q (call.Wait LatchOrShutdown) b (SleepWaiting c ∷ p) one ok may fits = absurd may
+    begun_turned q (call.Wait LatchOrShutdown) b (f ∷ p) one ok may fits = absurd may
     begun_turned q call.IsSet b p one ok may fits = stays (reads refl) refl refl
     begun_turned q (call.Sleep c) true [] one ok may fits = stays (reads refl) refl refl
     begun_turned q (call.Sleep c) false [] one ok may fits = stays (reads refl) refl refl
-    begun_turned q (call.Sleep c) b (f ∷ p) one ok may fits = absurd (outside (call.Sleep c) (λ q h. h) (λ h. h) f may)
+    begun_turned q (call.Sleep c) true (Dozing d ph ∷ p) one ok may fits = stays (reads refl) refl refl
+    begun_turned q (call.Sleep c) false (Dozing d ph ∷ p) one ok may fits = stays (reads refl) refl refl
+    begun_turned q (call.Sleep c) b (f ∷ p) one ok may fits = absurd may
     begun_turned q c b p one ok may fits = absurd ok
 
     -- the latch of q is set
@@ -285,7 +363,7 @@ module _ (z : Size) (most : z.cvs ≤ most_conditions) (words : List ℕ) (homes
 
     -- it is freed
     free_turned : (j : Job) (list : List ℕ) (found : Record) (p : Place) → slot_of (spot_of j) < slots_in z → JobFits z.cvs t j p
-        → Turn z words homes (set homes (slot_of (spot_of j)) (maybe.some (as_kept (left_list j o list) (left_record j found)))) (spin_at z (slot_of (spot_of j))) 0 (at (Holding j list found ∷ p)) (stance (Some o) (target_after j t) (heeds_after j o list h) (goes_on j o list p))
+        → Turn z words homes (set homes (slot_of (spot_of j)) (maybe.some (as_kept (left_list j o list) (left_record j found)))) (spin_at z (slot_of (spot_of j))) 0 (at (Holding j list found ∷ p)) (stance (Some o) (target_after j t) (heeds_after j o list h) (goes_on j o list found p))
     free_turned j list found p inside fits = frees o (slot_of (spot_of j)) list (as_kept (left_list j o list) (left_record j found)) below inside refl refl refl refl refl refl (freed_sends z.cvs o h found j list t p fits)
 
   -- what the step makes of the word, the lists and the seat's stance
@@ -323,7 +401,7 @@ module _ (z : Size) (most : z.cvs ≤ most_conditions) (words : List ℕ) (homes
       where
         at_spot : (y : Spot) → spot_of j ≡ y → slot_of y < slots_in z → TurnsAt (Free y after) t h (Holding j list found ∷ p)
         at_spot y e = subst (λ (s : Spot). slot_of s < slots_in z → TurnsAt (Free s after) t h (Holding j list found ∷ p)) e
-            (λ low. subst (λ (u : Option ℕ). Turn z words homes (set homes (slot_of (spot_of j)) (maybe.some (as_kept (left_list j o list) (left_record j found)))) (spin_at z (slot_of (spot_of j))) 0 (stance (Some o) t h (Holding j list found ∷ p)) (stance (Some o) u (heeds_after j o list h) (goes_on j o list p)))
+            (λ low. subst (λ (u : Option ℕ). Turn z words homes (set homes (slot_of (spot_of j)) (maybe.some (as_kept (left_list j o list) (left_record j found)))) (spin_at z (slot_of (spot_of j))) 0 (stance (Some o) t h (Holding j list found ∷ p)) (stance (Some o) u (heeds_after j o list h) (goes_on j o list found p)))
             (sym ok.1) (free_turned t h j list found p low fits))
     free_at x after p inside ok fits = absurd ok
 
@@ -342,7 +420,7 @@ module _ (z : Size) (most : z.cvs ≤ most_conditions) (words : List ℕ) (homes
     turning (Shload (Some c)) p ok fits few = stays (reads refl) refl refl
     turning (Shload None) p ok fits few = at_top (λ (r : Place). TurnsAt (Shload None) t h r) p CheckingShutdown ok (stays (reads refl) refl (checked_same (Some o) t h (eqb (found_at (shut_at z)) 0) (outer p)))
     turning (Shstore begins) p ok fits few = stays (shuts refl) refl (stopping_same (Some o) t h p ok.1)
-    turning (Take x (Some c)) p ok fits few = let e = enters (Some o) t h c x p ok.1 ok.3 in
+    turning (Take x (Some c)) p ok fits few = let e = enters z.cvs (Some o) t h c x p ok.1 ok.3 fits in
         subst (λ (r : Place). Turn z words homes (homes_after homes (carried (Take x (Some c)) o p) (act_of (Take x (Some c)) (found_at (spin_at z (slot_of x))) (home_in homes (slot_of x)))) (spin_at z (slot_of x)) 1
         (stance (Some o) t h p) (stance (Some o) t h (taken (eqb (found_at (spin_at z (slot_of x))) 0) (home_in homes (slot_of x)) r))) (sym e.2) (taken_turned x (Some c) e.0 p e.1 (spot_inside z x most ok.0) e.3 few e.4)
     turning (Take x None) p ok fits few = take_at x p (spot_inside z x most ok.0) ok.1 few

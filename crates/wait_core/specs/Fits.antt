@@ -10,24 +10,24 @@ use Rattle.wait_core.specs.declared.view.Frame.TheVariants.{Setting, Telling, Wa
 use Rattle.wait_core.specs.Machine.{Place}
 use Rattle.wait_core.specs.Seating.{Standing}
 
+-- behind a listing, a sleep and a broadcast on a condition: nothing, or a call on its barrier
+abbrev pub BehindPrepare : ℕ → Place → Type 0
+BehindPrepare c [] = ⊤
+BehindPrepare c (Settling b ph ∷ p) = (b ≡ c) × (p ≡ [])
+BehindPrepare c p = ⊥
+
+abbrev pub BehindSleep : ℕ → Place → Type 0
+BehindSleep c [] = ⊤
+BehindSleep c (Dozing b ph ∷ p) = (b ≡ c) × (p ≡ [])
+BehindSleep c p = ⊥
+
+abbrev pub BehindBroadcast : ℕ → Place → Type 0
+BehindBroadcast c [] = ⊤
+BehindBroadcast c (Passing b ph ∷ p) = (b ≡ c) × (p ≡ [])
+BehindBroadcast c p = ⊥
+
 -- in a table with so many conditions, and a seat with this target
 module _ (cvs : ℕ) (t : Option ℕ) where
-  -- behind a listing, a sleep and a broadcast on a condition: nothing, or a call on its barrier
-  abbrev pub BehindPrepare : ℕ → Place → Type 0
-  BehindPrepare c [] = ⊤
-  BehindPrepare c (Settling b ph ∷ p) = (b ≡ c) × (p ≡ [])
-  BehindPrepare c p = ⊥
-
-  abbrev pub BehindSleep : ℕ → Place → Type 0
-  BehindSleep c [] = ⊤
-  BehindSleep c (Dozing b ph ∷ p) = (b ≡ c) × (p ≡ [])
-  BehindSleep c p = ⊥
-
-  abbrev pub BehindBroadcast : ℕ → Place → Type 0
-  BehindBroadcast c [] = ⊤
-  BehindBroadcast c (Passing b ph ∷ p) = (b ≡ c) × (p ≡ [])
-  BehindBroadcast c p = ⊥
-
   -- behind the setting of the latch of q: nothing, or who popped q. A broadcaster has no target
   abbrev pub BehindSet : ℕ → Place → Type 0
   BehindSet q [] = ⊤

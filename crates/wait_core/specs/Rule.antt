@@ -24,6 +24,7 @@ use Rattle.wait_core.specs.Barriers.{attendance_of, phases_in, CountsParticipant
 pub record Sized (z : Size) (count words homes : ℕ) : Type 0 where
   pub procs : (0 < z.procs) × (z.procs ≤ 64)
   pub cvs : z.cvs ≤ most_conditions
+  pub bars : z.bars ≤ z.cvs
   pub long : words ≡ client_base z + count
   pub slots : homes ≡ slots_in z
 
