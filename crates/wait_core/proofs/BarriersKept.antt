@@ -11,7 +11,7 @@ use Rattle.seat_roster.proofs.Stretches.{each_set}
 use Rattle.wait_core.specs.Parties.{phase_of, now, Elected, newcomer, joined, left_over, Barriers}
 
 -- an election among two lists is of one of them
-elected_either : (xs ys : List (ℕ × ℕ)) (b ph k : ℕ) → get_elem? (xs ++ ys) k ≡ maybe.some (b, ph) → Elected xs b ph ⊎ Elected ys b ph
+pub elected_either : (xs ys : List (ℕ × ℕ)) (b ph k : ℕ) → get_elem? (xs ++ ys) k ≡ maybe.some (b, ph) → Elected xs b ph ⊎ Elected ys b ph
 elected_either [] ys b ph k e = inr (k, e)
 elected_either (x ∷ xs) ys b ph zero e = inl (0, e)
 elected_either (x ∷ xs) ys b ph (suc k) e = ⊎_elim (λ (t : Elected xs b ph). inl (suc t.0, t.1)) inr (elected_either xs ys b ph k e)

@@ -27,7 +27,7 @@ total_gap_two f g (x ∷ xs) (suc i) (suc j) v w ne h e e' = let a = h 0 x refl 
 
 module _ {C : Type 0} (means : Meanings C) (phases : List ℕ) (seats : List (Attendance C)) (known : PhasesAreKnown phases seats) (calm : WaitersAreQuiet means seats) where
   -- who waits takes part
-  waits_less : (b f id : ℕ) (v : Attendance C) → get_elem? seats id ≡ maybe.some v → waits_from b f v ≤ takes_part b v
+  pub waits_less : (b f id : ℕ) (v : Attendance C) → get_elem? seats id ≡ maybe.some v → waits_from b f v ≤ takes_part b v
   waits_less b f id v at = dite (ℕ_discrete (waits_from b f v) 0) (λ none. omega arith)
       (λ some. let is = waiting_is b f (waits_at v.place) (omega arith) in let part : takes_part b v ≡ 1 = ap one_if (calm id v at b f is).attached in let most = waits_most b f (waits_at v.place) in omega arith)
 

@@ -14,7 +14,7 @@ use Rattle.wait_core.specs.Rule.{Rule}
 use Rattle.wait_core.specs.Runs.{Deed, machine, client, draw, seat, join, Deeds, Steps, Runs}
 use Rattle.wait_core.specs.Promises.{IsReached}
 use Rattle.wait_core.proofs.Openings.{opening_kept}
-use Rattle.wait_core.proofs.Attending.{Owes}
+use Rattle.wait_core.proofs.Arriving.{Owes}
 use Rattle.wait_core.proofs.RuleKept.{machine_kept}
 use Rattle.wait_core.proofs.SeatsKept.{client_kept, draw_kept, seat_kept, join_kept}
 

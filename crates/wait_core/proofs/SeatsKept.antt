@@ -1,5 +1,5 @@
 -- Steps of the client, and the drawing and joining of seats, keep the whole rule.
-use Rattle.std.proofs.Common.{◌≡◌, ℕ, ◌+◌, ◌<◌, ◌≤◌, List, [], ◌∷◌, ◌++◌, map, drop, length, get_or, set, Option, None, Some, refl, sym, ap, ◌∙◌, subst, arith, length-set, length-append, get_or-set_same, get_or-set_other}
+use Rattle.std.proofs.Common.{◌≡◌, ℕ, ◌+◌, ◌<◌, ◌≤◌, List, [], ◌∷◌, ◌++◌, map, drop, length, get_or, set, Option, None, Some, refl, sym, ap, ◌∙◌, subst, ⊎_elim, arith, length-set, length-append, get_or-set_same, get_or-set_other}
 use Rattle.std.proofs.lemmas.List.{drop-set-lt, drop-set-add, get_or-drop, length-map}
 use mathlib.Core.List.{map-append}
 use mathlib.Core.Option as maybe
@@ -17,20 +17,23 @@ use Rattle.seat_roster.specs.Totals.{total}
 use Rattle.seat_roster.specs.Roster.{Numbers, Roster, count as numbers_in, numbered, one_if, drew, gave, took}
 use Rattle.wait_core.specs.Words.{slot_of, client_base}
 use Rattle.wait_core.specs.Machine.{WaitState, Place}
-use Rattle.wait_core.specs.Parties.{phase_of, with_client, newcomer, joined, left_over, Barriers, IsStep, IsDraw, IsJoin}
+use Rattle.wait_core.specs.Parties.{phase_of, Elected, with_client, newcomer, joined, left_over, Barriers, IsStep, IsDraw, IsJoin}
 use Rattle.wait_core.specs.Seating.{Standing, Doings, numbers_of, standing_of, doings_of, party_of, client_moved, with_drawn, stays, comes, took_in, spent_view}
 use Rattle.wait_core.specs.LeftAreFree.{IsFree, LeftAreFree}
 use Rattle.wait_core.specs.Fits.{PlacesFit}
-use Rattle.wait_core.specs.Barriers.{Attendance, attendance_of, waits_at, asks_at, held_field, phases, phases_in, takes_part, CountsParticipants, NoneIsBelow, IsHere, IdleAreHere, JobSuits, CallsSuit}
+use Rattle.wait_core.specs.Barriers.{Attendance, attendance_of, waits_at, is_from, asks_at, held_field, field_of, phase_in, phases, phases_in, takes_part, waits_from, CountsParticipants, CountsArrived, PhasesAreInside, KnowsPhases, PhasesAreKnown, IsWaiter, WaitersAreQuiet, ElectionsAreRecorded, JobSuits, CallsSuit}
 use Rattle.wait_core.specs.WordsAreMade.{WordsAreMade}
 use Rattle.wait_core.specs.Promises.{LastHoldsAlone}
 use Rattle.wait_core.specs.Rule.{SeatsAreCounted, Rule}
 use Rattle.seat_roster.proofs.Totals.{total_set, total_snoc, total_at, total_two}
 use Rattle.seat_roster.proofs.Stretches.{unseen, from_seen, each_set, each_more}
 use Rattle.seat_roster.proofs.Numbers.{roster_drew, roster_gave, roster_took, pending_inside}
-use Rattle.wait_core.proofs.Records.{field_same}
-use Rattle.wait_core.proofs.Attending.{attended, unmoved, moved, phases_same, few_views}
-use Rattle.wait_core.proofs.BarriersKept.{barriers_more, barriers_joined}
+use Rattle.wait_core.proofs.Records.{opened_same, field_same}
+use Rattle.wait_core.proofs.Attachments.{none_waited}
+use Rattle.wait_core.specs.Stances.{Homes}
+use Rattle.wait_core.proofs.Attending.{here_idle, unmoved, moved}
+use Rattle.wait_core.proofs.Arriving.{attended, few_views}
+use Rattle.wait_core.proofs.BarriersKept.{elected_either, nobody_elected, barriers_more, barriers_joined}
 use Rattle.wait_core.proofs.Turns.{first as is_first, client as is_client}
 use Rattle.wait_core.specs.ListsAreMade.{ListsAreMade}
 use Rattle.wait_core.proofs.ListsAreMade.{lists_made_snoc, lists_made_joined}
@@ -46,6 +49,17 @@ has_number own p is none = absurd (cc)
 abbrev WasLeft : {C : Type 0} → PartyView C → Type 0
 WasLeft u = u.proc ≡ None → IsFree u
 
+-- what the parts on barriers say of each seat that may wait, and of its elections
+abbrev IsQuietWaiter : {C : Type 0} → Meanings C → Attendance C → Type 0
+IsQuietWaiter means u = (b ph : ℕ) → waits_at u.place ≡ Some (b, ph) → IsWaiter means u.party b ph
+
+abbrev IsRecorded : {C : Type 0} → Size → Homes → List (Attendance C) → Attendance C → Type 0
+IsRecorded z homes seats u = (b ph : ℕ) → Elected u.party.elections b ph → (b < z.bars) × (ph ≤ field_of (λ r. r.elected) b homes seats)
+
+-- as much is in hand as before, so each phase reads as before
+phases_same : {C : Type 0} (z : Size) (homes : Homes) (seats others : List (Attendance C)) → ((f : Record → ℕ) (x : ℕ) → total (λ (u : Attendance C). held_field f x u.place) others ≡ total (λ (u : Attendance C). held_field f x u.place) seats) → phases z homes others ≡ phases z homes seats
+phases_same z homes seats others same = opened_same (λ b. phase_in b homes seats) (λ b. phase_in b homes others) z.bars (λ b below. let e = same (λ r. r.phase) (slot_of (Bar b)) in omega arith)
+
 module _ {C : Type 0} (means : Meanings C) (z : Size) (phase count : ℕ) where
   -- there are no more views than the seat with the number 0 has drawn, and itself
   pub few_drawn : (s : WaitState C) → Rule means z phase count s → (id : ℕ) (v : WaitView C) → get_elem? s.views id ≡ maybe.some v → v.own ≡ Some 0 → length (map party_of s.views) ≤ v.drawn + 1
@@ -53,7 +67,7 @@ module _ {C : Type 0} (means : Meanings C) (z : Size) (phase count : ℕ) where
 
   -- what a client's step may suppose: its seat has a number, and is in no call
   pub is_step : (s : WaitState C) → Rule means z phase count s → (id : ℕ) (v : WaitView C) → get_elem? s.views id ≡ maybe.some v → (p : ℕ) → v.own ≡ Some p → v.place ≡ [] → IsStep (map party_of s.views) (phases_in z s) id (party_of v)
-  is_step s r id v at p own idle = record { at = at_map party_of s.views id v at; own = (p, own); few = few_views means z phase count s r; barriers = r.barriers; here = r.here id (attendance_of v) (at_map attendance_of s.views id v at) (ap waits_at idle) }
+  is_step s r id v at p own idle = record { at = at_map party_of s.views id v at; own = (p, own); few = few_views means z phase count s r; barriers = r.barriers; here = here_idle (phases_in z s) (attendance_of v) (r.known id (attendance_of v) (at_map attendance_of s.views id v at)) (ap waits_at idle) }
 
   -- a step of the client's f on its word k
   pub client_kept : (s : WaitState C) → Rule means z phase count s → (id : ℕ) (v : WaitView C) → get_elem? s.views id ≡ maybe.some v → (p : ℕ) → v.own ≡ Some p → v.place ≡ [] → (k : ℕ) (f : ℕ → ℕ) (then : ℕ → C) → k < count
@@ -66,12 +80,9 @@ module _ {C : Type 0} (means : Meanings C) (z : Size) (phase count : ℕ) where
       let first : get_or (set s.words (b + k) (f n)) 0 0 ≡ get_or s.words 0 0 = get_or-set_other s.words (b + k) 0 (f n) 0 (λ e. omega arith) in
       let numbers = sym (unseen numbers_of s.views id v w at refl) in
       let found : get_or (drop b s.words) k 0 ≡ n = get_or-drop b s.words k 0 in
-      let seats = map attendance_of s.views in let seat = at_map attendance_of s.views id v at in let here = r.here id (attendance_of v) seat (ap waits_at idle) in
-      let b' = moved means z phase s (attended means z phase count s r) id v w at (set s.words (b + k) (f n)) s.homes (has_number v.own p own) (with_client (party_of v) (then n)) refl refl refl
-      (λ c below. field_same s.homes seats id (attendance_of v) (attendance_of w) seat (λ x. x.phase) c refl)
-      (λ c below. let sum = total_set (takes_part c) seats id (attendance_of v) (attendance_of w) seat in let was = r.participants c below in let e = field_same s.homes seats id (attendance_of v) (attendance_of w) seat (λ x. x.participants) c refl in omega arith)
-      (λ c ph e. (here c ph e, r.barriers.inside id (party_of v) (at_map party_of s.views id v at) c ph e))
-      (subst (λ (q : Place). JobSuits means (asks_at q) (party_of w)) (sym idle) tt)
+      let seats = map attendance_of s.views in let seat = at_map attendance_of s.views id v at in
+      let b' = moved means z phase s (attended means z phase count s r) id v w at (set s.words (b + k) (f n)) s.homes (has_number v.own p own)
+      (λ g blank c below. field_same s.homes seats id (attendance_of v) (attendance_of w) seat g c refl) refl refl refl idle idle
       (subst (λ (x : List ℕ). means.holds x (set (map party_of s.views) id (with_client (party_of v) (then n))) (phases_in z s)) (sym (drop-set-add b s.words k (f n)))
       (subst (λ (x : ℕ). means.holds (set (drop b s.words) k (f x)) (set (map party_of s.views) id (with_client (party_of v) (then x))) (phases_in z s)) found
       (law (drop b s.words) (map party_of s.views) (phases_in z s) r.client (is_step s r id v at p own idle)))) in
@@ -110,8 +121,8 @@ module _ {C : Type 0} (means : Meanings C) (z : Size) (phase count : ℕ) where
       let first : get_or (set s.words 0 x) 0 0 ≡ next + 1 = get_or-set_same s.words 0 x 0 (omega arith) ∙ is in
       let numbers : set ns id (drew (numbers_of v)) ≡ map numbers_of (set s.views id w) = sym (map-set numbers_of s.views id w) in
       let seats = map attendance_of s.views in let seat = at_map attendance_of s.views id v at in
-      let b = unmoved means z phase s (attended means z phase count s r) id v w at (set s.words 0 x) s.homes (drop-set-lt (client_base z) s.words 0 x (omega arith)) refl
-      (λ c below. field_same s.homes seats id (attendance_of v) (attendance_of w) seat (λ y. y.phase) c refl) (λ c below. field_same s.homes seats id (attendance_of v) (attendance_of w) seat (λ y. y.participants) c refl) (r.suits id (attendance_of v) seat) in
+      let b = unmoved means z phase s (attended means z phase count s r) id v w at (set s.words 0 x) s.homes (has_number v.own 0 own)
+      (λ g blank c below. field_same s.homes seats id (attendance_of v) (attendance_of w) seat g c refl) (drop-set-lt (client_base z) s.words 0 x (omega arith)) refl refl (r.suits id (attendance_of v) seat) in
       record {
         sized = record { procs = r.sized.procs; cvs = r.sized.cvs; bars = r.sized.bars; long = length-set s.words 0 x ∙ long; slots = r.sized.slots };
         flags = flags_same z s.words (set s.words 0 x) (map standing_of s.views) (map standing_of (set s.views id w)) agree same r.flags;
@@ -127,9 +138,12 @@ module _ {C : Type 0} (means : Meanings C) (z : Size) (phase count : ℕ) where
         lists = lists_apart z r.sized.cvs (get_or s.words 0 0) s.words s.homes s.views (omega (arith, long)) r.flags r.roster r.lists id v at 0 x w (is_first refl) refl;
         left = b.left;
         barriers = b.barriers;
-        here = b.here;
+        known = b.known;
+        waiters = b.waiters;
         participants = b.participants;
-        reached = b.reached;
+        arrived = b.arrived;
+        elections = b.elections;
+        inside = b.inside;
         suits = b.suits;
         client = b.client;
       }
@@ -168,9 +182,17 @@ module _ {C : Type 0} (means : Meanings C) (z : Size) (phase count : ℕ) where
         lists = lists_more z r.sized.cvs (get_or s.words 0 0) s.words s.homes s.views (omega (arith, r.sized.long)) r.flags r.roster r.lists id v at (stays v) w v.pending refl refl;
         left = subst LeftAreFree parties (each_more WasLeft (map party_of s.views) (newcomer c (Some n)) r.left (λ none. record { attached = refl; elections = refl }));
         barriers = subst (λ (y : List (PartyView C) × List ℕ). Barriers y.0 y.1) (λ i. (parties i, sym stay i)) (barriers_more (map party_of s.views) (phases_in z s) c (Some n) r.barriers);
-        here = subst (λ (y : List ℕ × List (Attendance C)). IdleAreHere y.0 y.1) (λ i. (sym stay i, sym seen i)) (each_more (IsHere (phases_in z s)) before (attendance_of w) r.here (λ _ b ph e. absurd (cc)));
+        known = subst (λ (y : List ℕ × List (Attendance C)). PhasesAreKnown y.0 y.1) (λ i. (sym stay i, sym seen i)) (each_more (KnowsPhases (phases_in z s)) before (attendance_of w) r.known (λ b ph e. absurd (cc)));
+        waiters = subst (WaitersAreQuiet means) (sym seen) (each_more (IsQuietWaiter means) before (attendance_of w) r.waiters (λ b ph e. absurd (cc)));
         participants = subst (CountsParticipants z s.homes) (sym seen) (λ b below. let was = r.participants b below in let a = total_snoc (takes_part b) before (attendance_of w) in let e = held (λ y. y.participants) (slot_of (Bar b)) in omega arith);
-        reached = subst (NoneIsBelow z phase s.homes) (sym seen) (λ b below. let was = r.reached b below in let e = held (λ y. y.phase) (slot_of (Bar b)) in omega arith);
+        arrived = subst (CountsArrived z s.homes) (sym seen) (λ b below. let was = r.arrived b below in let e = held (λ y. y.arrived) (slot_of (Bar b)) in let ph = held (λ y. y.phase) (slot_of (Bar b)) in
+            let a = total_snoc (waits_from b (phase_in b s.homes before)) before (attendance_of w) in
+            let same : phase_in b s.homes (before ++ attendance_of w ∷ []) ≡ phase_in b s.homes before = omega arith in let counts = ap (λ (n : ℕ). total (waits_from b n) (before ++ attendance_of w ∷ [])) same in omega arith);
+        elections = subst (ElectionsAreRecorded z s.homes) (sym seen) (record {
+          past = λ b below. let was = r.elections.past b below in let e = held (λ y. y.elected) (slot_of (Bar b)) in let ph = held (λ y. y.phase) (slot_of (Bar b)) in omega arith;
+          known = each_more (IsRecorded z s.homes (before ++ attendance_of w ∷ [])) before (attendance_of w) (λ j u e b ph won. let was = r.elections.known j u e b ph won in let most = was.1 in let same = held (λ y. y.elected) (slot_of (Bar b)) in (was.0, omega arith)) (λ b ph won. absurd (nobody_elected b ph won));
+        });
+        inside = subst (PhasesAreInside z phase s.homes) (sym seen) (λ b below. let was = r.inside b below in let low = was.0 in let high = was.1 in let e = held (λ y. y.phase) (slot_of (Bar b)) in (omega arith, omega arith));
         suits = subst (CallsSuit means) (sym seen) (each_more (λ (u : Attendance C). JobSuits means (asks_at u.place) u.party) before (attendance_of w) r.suits tt);
         client = subst (λ (y : List (PartyView C) × List ℕ). means.holds (drop (client_base z) s.words) y.0 y.1) (λ i. (parties i, sym stay i))
             (law (drop (client_base z) s.words) (map party_of s.views) (phases_in z s) n r.client
@@ -219,12 +241,27 @@ module _ {C : Type 0} (means : Meanings C) (z : Size) (phase count : ℕ) where
         left = subst LeftAreFree parties (each_set WasLeft (set (map party_of s.views) id (joined both (party_of v) (party_of w))) other (left_over c)
             (each_set WasLeft (map party_of s.views) id (joined both (party_of v) (party_of w)) r.left (λ none. absurd (has_number v.own p own none))) (λ none. record { attached = refl; elections = refl }));
         barriers = subst (λ (q : List (PartyView C) × List ℕ). Barriers q.0 q.1) (λ i. (parties i, sym stay i)) (barriers_joined (map party_of s.views) (phases_in z s) id other (party_of v) (party_of w) both c r.barriers (at_map party_of s.views id v at) (at_map party_of s.views other w there) apart);
-        here = subst (λ (q : List ℕ × List (Attendance C)). IdleAreHere q.0 q.1) (λ i. (sym stay i, sym seen i))
-            (each_set (IsHere (phases_in z s)) (set before id (attendance_of x)) other (attendance_of y) (each_set (IsHere (phases_in z s)) before id (attendance_of x) r.here (r.here id (attendance_of v) seat)) (λ _ b ph e. absurd (cc)));
+        known = subst (λ (q : List ℕ × List (Attendance C)). PhasesAreKnown q.0 q.1) (λ i. (sym stay i, sym seen i))
+            (each_set (KnowsPhases (phases_in z s)) (set before id (attendance_of x)) other (attendance_of y) (each_set (KnowsPhases (phases_in z s)) before id (attendance_of x) r.known (r.known id (attendance_of v) seat)) (λ b ph e. absurd (cc)));
+        waiters = subst (WaitersAreQuiet means) (sym seen) (each_set (IsQuietWaiter means) (set before id (attendance_of x)) other (attendance_of y)
+            (each_set (IsQuietWaiter means) before id (attendance_of x) r.waiters (λ b ph e. absurd (none_waited b ph (sym (ap waits_at idle_is) ∙ e)))) (λ b ph e. absurd (cc)));
         participants = subst (CountsParticipants z s.homes) (sym seen) (λ b below. let was = r.participants b below in let e = held (λ q. q.participants) (slot_of (Bar b)) in
             let first = total_set (takes_part b) before id (attendance_of v) (attendance_of x) seat in let second = total_set (takes_part b) (set before id (attendance_of x)) other (attendance_of w) (attendance_of y) other_seat in
             let none : takes_part b (attendance_of w) ≡ 0 = ap (λ (l : List (ℕ × ℕ)). one_if (phase_of l b)) free.1 in omega arith);
-        reached = subst (NoneIsBelow z phase s.homes) (sym seen) (λ b below. let was = r.reached b below in let e = held (λ q. q.phase) (slot_of (Bar b)) in omega arith);
+        arrived = subst (CountsArrived z s.homes) (sym seen) (λ b below. let was = r.arrived b below in let e = held (λ q. q.arrived) (slot_of (Bar b)) in let ph = held (λ q. q.phase) (slot_of (Bar b)) in let f : Attendance C → ℕ = waits_from b (phase_in b s.homes before) in
+            let first = total_set f before id (attendance_of v) (attendance_of x) seat in let second = total_set f (set before id (attendance_of x)) other (attendance_of w) (attendance_of y) other_seat in
+            let none : f (attendance_of w) ≡ 0 = ap (λ (q : Place). is_from b (phase_in b s.homes before) (waits_at q)) still in
+            let same : phase_in b s.homes (set (set before id (attendance_of x)) other (attendance_of y)) ≡ phase_in b s.homes before = omega arith in
+            let counts = ap (λ (n : ℕ). total (waits_from b n) (set (set before id (attendance_of x)) other (attendance_of y))) same in omega arith);
+        elections = subst (ElectionsAreRecorded z s.homes) (sym seen) (record {
+          past = λ b below. let was = r.elections.past b below in let e = held (λ q. q.elected) (slot_of (Bar b)) in let ph = held (λ q. q.phase) (slot_of (Bar b)) in omega arith;
+          known = let recorded : Attendance C → Type 0 = IsRecorded z s.homes (set (set before id (attendance_of x)) other (attendance_of y)) in
+              let moved_over : (j : ℕ) (u : Attendance C) → get_elem? before j ≡ maybe.some u → recorded u = λ j u e b ph won. let was = r.elections.known j u e b ph won in let most = was.1 in let same = held (λ q. q.elected) (slot_of (Bar b)) in (was.0, omega arith) in
+              each_set recorded (set before id (attendance_of x)) other (attendance_of y) (each_set recorded before id (attendance_of x) moved_over
+              (λ b ph won. ⊎_elim (λ mine. moved_over id (attendance_of v) seat b ph mine) (λ its. moved_over other (attendance_of w) (at_map attendance_of s.views other w there) b ph its) (elected_either v.elections w.elections b ph won.0 won.1)))
+              (λ b ph won. absurd (nobody_elected b ph won));
+        });
+        inside = subst (PhasesAreInside z phase s.homes) (sym seen) (λ b below. let was = r.inside b below in let low = was.0 in let high = was.1 in let e = held (λ q. q.phase) (slot_of (Bar b)) in (omega arith, omega arith));
         suits = subst (CallsSuit means) (sym seen) (each_set (λ (u : Attendance C). JobSuits means (asks_at u.place) u.party) (set before id (attendance_of x)) other (attendance_of y)
             (each_set (λ (u : Attendance C). JobSuits means (asks_at u.place) u.party) before id (attendance_of x) r.suits (subst (λ (q : Place). JobSuits means (asks_at q) (party_of x)) (sym idle_is) tt)) tt);
         client = subst (λ (q : List (PartyView C) × List ℕ). means.holds (drop (client_base z) s.words) q.0 q.1) (λ i. (parties i, sym stay i))

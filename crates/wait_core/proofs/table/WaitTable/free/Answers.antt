@@ -38,7 +38,7 @@ make-old-requires-clause-told g c κs within =
     let ok = subst (λ v. Allowed z c.args.step v.view) (sym c.seat.view_is) c.requires.place in
     let home = subst (λ v. SendsHome c.args.step v) (sym c.seat.view_is) c.requires.hand in
     let laws = g.met.P.Party g.world.𝓛 g.world.𝓜 g.world.𝓡 ((λ s x. x), (λ x. x), (λ x. x), λ x. x) in
-    step_turns (g.P.Party.means t.party) z t.phase (g.P.Party.word_count t.party) (record { enter = laws.enter_keeps t.party; leave = laws.leave_keeps t.party }) t.table_id.slots u.id u.me c.step_word-word.result c.seat.inside.number c.args.step c.op.result c.step_word-word.ensures c.op.ensures
+    step_turns (g.P.Party.means t.party) z t.phase (g.P.Party.word_count t.party) (record { enter = laws.enter_keeps t.party; notice = laws.notice_keeps t.party; elect = laws.elect_keeps t.party; pass = laws.pass_keeps t.party; leave = laws.leave_keeps t.party }) t.table_id.slots u.id u.me c.step_word-word.result c.seat.inside.number c.args.step c.op.result c.step_word-word.ensures c.op.ensures
     (seated_filled z s _ _ c.args.step _ c.seat.invariant ok c.requires.step c.slot-slot.ensures u _ c.exchange.ensures.0 c.exchange.ensures.3).own
     (allowed_still z s _ _ c.args.step _ c.seat.invariant ok c.requires.step c.slot-slot.ensures u _ c.exchange.ensures.0 c.exchange.ensures.3)
     (freeing_suits (g.P.Party.means t.party) c.args.step u.me.0 c.requires.step)
@@ -51,7 +51,7 @@ invariant_of-seat g c =
     let u = c.exchange.new.seat in
     let ok = subst (λ v. Allowed z c.args.step v.view) (sym c.seat.view_is) c.requires.place in
     subst (IsSeated c.make-old.new.seat c.seat.inside.number) (sym c.target_then-seat-inside.ensures)
-    (seated_after z (let t = c.args.self.now in TellsBarrier (g.P.Party.means t.party) (size_of t) t.phase (g.P.Party.word_count t.party) c.args.step u.id (party_of u.me.0)) u c.make-old.new.seat c.seat.inside.number c.seat.inside.target c.args.step c.make-old.result
+    (seated_after z (let t = c.args.self.now in TellsBarrier (g.P.Party.means t.party) (size_of t) t.phase (g.P.Party.word_count t.party) c.args.step u.id u.me.0.place (party_of u.me.0)) u c.make-old.new.seat c.seat.inside.number c.seat.inside.target c.args.step c.make-old.result
     (seated_filled z s _ _ c.args.step _ c.seat.invariant ok c.requires.step c.slot-slot.ensures u _ c.exchange.ensures.0 c.exchange.ensures.3)
     (allowed_still z s _ _ c.args.step _ c.seat.invariant ok c.requires.step c.slot-slot.ensures u _ c.exchange.ensures.0 c.exchange.ensures.3)
     c.make-old.ensures.table.0 c.make-old.ensures.told)

@@ -17,7 +17,7 @@ new-requires-2 g c =
     let values = g.P.Party.opens c.args.party in
     let count : ℕ = c.words-count.result in
     subst (λ (ws : List ℕ). Rule means z c.args.opening_phase count (opening ws c.in_ok-homes.homes.items (fresh first (Some 0)))) (sym (c.as_slice.ensures.value ∙ c.in_ok-words.ensures))
-    (opens means z c.args.opening_phase count values first c.in_ok-homes.homes.items c.in_ok-homes.ensures c.requires.procs.0 c.requires.procs.1 c.requires.cvs.1
+    (opens means z c.args.opening_phase count values first c.in_ok-homes.homes.items c.in_ok-homes.ensures c.requires.procs.0 c.requires.procs.1 c.requires.cvs.1 c.requires.bars.2 c.requires.phase
     (for_same _ _ c.words-count.ensures (λ n. means.holds (opened values n) (newcomer first (Some 0) ∷ []) (opening_phases z c.args.opening_phase)) c.requires.opening))
 
 pub invariant_of-result : goal.invariant_of-result

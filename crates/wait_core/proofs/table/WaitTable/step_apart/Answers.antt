@@ -27,10 +27,10 @@ make-old-requires-clause-told g c κs within =
     let t = c.args.self.now in
     let seat = c.seat.inside.seat in
     let laws = g.met.P.Party g.world.𝓛 g.world.𝓜 g.world.𝓡 ((λ s x. x), (λ x. x), (λ x. x), λ x. x) in
-    step_turns (g.P.Party.means t.party) (size_of t) t.phase (g.P.Party.word_count t.party) (record { enter = laws.enter_keeps t.party; leave = laws.leave_keeps t.party }) t.table_id.slots seat.id seat.me c.step_word-word.result c.seat.inside.number c.args.step c.op.result c.step_word-word.ensures c.op.ensures c.seat.invariant.own
+    step_turns (g.P.Party.means t.party) (size_of t) t.phase (g.P.Party.word_count t.party) (record { enter = laws.enter_keeps t.party; notice = laws.notice_keeps t.party; elect = laws.elect_keeps t.party; pass = laws.pass_keeps t.party; leave = laws.leave_keeps t.party }) t.table_id.slots seat.id seat.me c.step_word-word.result c.seat.inside.number c.args.step c.op.result c.step_word-word.ensures c.op.ensures c.seat.invariant.own
     (subst (λ v. Allowed (size_of t) c.args.step v.view) (sym c.seat.view_is) c.requires.place) (apart_suits (g.P.Party.means t.party) c.args.step seat.me.0 c.requires.apart) (apart_slot (size_of t) c.args.step seat.me.0 seat.me.1 c.requires.apart c.seat.invariant.carries)
 
 pub invariant_of-seat : goal.invariant_of-seat
 invariant_of-seat g c =
-    seated_apart (size_of c.args.self.now) (let t = c.args.self.now in TellsBarrier (g.P.Party.means t.party) (size_of t) t.phase (g.P.Party.word_count t.party) c.args.step c.seat.inside.seat.id (party_of c.seat.inside.seat.me.0)) c.seat.inside.seat c.make-old.new.seat _ _ c.args.step c.make-old.result 0 c.seat.invariant (subst (λ v. Allowed (size_of c.args.self.now) c.args.step v.view) (sym c.seat.view_is) c.requires.place)
+    seated_apart (size_of c.args.self.now) (let t = c.args.self.now in TellsBarrier (g.P.Party.means t.party) (size_of t) t.phase (g.P.Party.word_count t.party) c.args.step c.seat.inside.seat.id c.seat.inside.seat.me.0.place (party_of c.seat.inside.seat.me.0)) c.seat.inside.seat c.make-old.new.seat _ _ c.args.step c.make-old.result 0 c.seat.invariant (subst (λ v. Allowed (size_of c.args.self.now) c.args.step v.view) (sym c.seat.view_is) c.requires.place)
     c.make-old.ensures.table.0 c.make-old.ensures.told c.requires.apart
