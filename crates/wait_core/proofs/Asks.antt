@@ -18,7 +18,7 @@ use lib.ListN.{get_elem?}
 use Rattle.wait_core.specs.Machine.{WaitState, number_of, word_of, becomes, home_in, slot_number, carried, act_of, next_with, Permits, Allowed}
 use Rattle.wait_core.specs.Parties.{with_client, newcomer, joined, left_over, IsStep, IsDraw, IsJoin}
 use Rattle.wait_core.specs.Seating.{numbers_of, standing_of, party_of, client_moved, with_drawn, stays, comes, took_in, spent_view}
-use Rattle.wait_core.specs.Barriers.{StepSuits}
+use Rattle.wait_core.specs.Barriers.{StepSuits, waits_at}
 use Rattle.wait_core.specs.Rule.{Rule}
 use Rattle.wait_core.specs.Told.{Tells, TellsBarrier, does, does_client, looks, draws, Turns, Cuts, Glues}
 use Rattle.wait_core.specs.Seats.{TableView, table_view, size_of}
@@ -60,8 +60,8 @@ homes_same z k o n found v is homes c h = refl
 module _ {C : Type 0} (means : Meanings C) (z : Size) (phase count : ℕ) where
   -- a step of the machine, where the table's operation does what the machine says
   pub step_turns : Owes means → (slots id : ℕ) (me : Me Kept (WaitView C)) (word o : ℕ) (k : WaitStep) (op : ClientOp) → word ≡ word_of z o k → ((n : ℕ) → op_gives op n ≡ becomes k n) → me.0.own ≡ Some o → Allowed z k me.0 → StepSuits means k me.0 → HasSlot k me.0 me.1
-      → Turns means z phase count slots id me word (op_gives op) (does z (TellsBarrier means z phase count k id me.0.place (party_of me.0)) k me)
-  step_turns laws slots id me word o k op at agrees own ok suits slot = subst (λ (i : ℕ). Turns means z phase count slots id me i (op_gives op) (does z (TellsBarrier means z phase count k id me.0.place (party_of me.0)) k me)) (sym at)
+      → Turns means z phase count slots id me word (op_gives op) (does z (TellsBarrier means z phase count k id (waits_at me.0.place) (party_of me.0)) k me)
+  step_turns laws slots id me word o k op at agrees own ok suits slot = subst (λ (i : ℕ). Turns means z phase count slots id me i (op_gives op) (does z (TellsBarrier means z phase count k id (waits_at me.0.place) (party_of me.0)) k me)) (sym at)
       (λ s r _ there _. let n : ℕ = get_or s.words (word_of z o k) 0 in let found : Kept = home_in s.homes (slot_number k) in let mine = subst (λ (x : Option ℕ). Permits z k x me.0.target me.0.place) own ok in
       let inside = word_inside z o k r.sized.cvs me.0.target me.0.place (own_below means z phase count s r id me.0 o there own) mine in
       let kept = step_kept means z phase count s r id me.0 o there own laws k mine suits in (

@@ -7,7 +7,7 @@ ghost use Rattle.wait_core.specs.Parties.{newcomer};
 ghost use Rattle.wait_core.specs.Places.{is_asleep};
 ghost use Rattle.wait_core.specs.Seating.{party_of, fresh, client_moved, after_draw, stays, took_in};
 ghost use Rattle.wait_core.specs.Told.{Tells, TellsBarrier, Turns, Cuts};
-ghost use Rattle.wait_core.specs.Barriers.{StepSuits};
+ghost use Rattle.wait_core.specs.Barriers.{StepSuits, waits_at};
 ghost use Rattle.wait_core.specs.Stances.{belongs_at};
 ghost use Rattle.wait_core.specs.Sending.{SendsHome, ListAfter, IsTaking, IsFreeing, IsApart};
 ghost use Rattle.wait_core.specs.Closing.{Ends, Stood};
@@ -144,7 +144,7 @@ impl<P: Party> WaitTable<P> {
         ensures changed { result.changed ≡ writes step }
         ensures told { result.old ≤ 1 }
         ensures list { Tells (size_of self.now) step (number_of seat.old.view.own) (belongs_at seat.old.view.target seat.old.view.place) result.old seat.new.list }
-        ensures barrier { TellsBarrier (P.means self.now.party) (size_of self.now) self.now.phase (P.word_count self.now.party) step seat.old.id seat.old.view.place (party_of seat.old.view) result.old seat.new.record }
+        ensures barrier { TellsBarrier (P.means self.now.party) (size_of self.now) self.now.phase (P.word_count self.now.party) step seat.old.id (waits_at seat.old.view.place) (party_of seat.old.view) result.old seat.new.record }
     {
         let changed = step.writes();
         let old = match &step {
@@ -167,7 +167,7 @@ impl<P: Party> WaitTable<P> {
         ensures hand { ListAfter step result seat.old seat.new }
         ensures told { result ≤ 1 }
         ensures list { Tells (size_of self.now) step (number_of seat.old.view.own) (belongs_at seat.old.view.target seat.old.view.place) result seat.new.list }
-        ensures barrier { TellsBarrier (P.means self.now.party) (size_of self.now) self.now.phase (P.word_count self.now.party) step seat.old.id seat.old.view.place (party_of seat.old.view) result seat.new.record }
+        ensures barrier { TellsBarrier (P.means self.now.party) (size_of self.now) self.now.phase (P.word_count self.now.party) step seat.old.id (waits_at seat.old.view.place) (party_of seat.old.view) result seat.new.record }
     {
         let _ = &self.table;
         let slot = step.slot();
