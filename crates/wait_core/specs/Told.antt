@@ -84,7 +84,7 @@ module _ {C : Type 0} where
 
   -- a step of the machine that found n: the view goes on as the machine says, what a spin word guards leaves its slot or goes home, n was 0 or 1, and the record that was found is told of
   abbrev pub does : Size → (ℕ → Record → Type 0) → WaitStep → Me Kept (WaitView C) → ℕ → Me Kept (WaitView C) → Type 0
-  does z tells k m n m' = (found : Kept) × (m'.0 ≡ next_with z k m.0 n found) × (m'.1 ≡ carried_after m.1 (act_of k n found)) × (n ≤ 1) × Tells z k (number_of m.0.own) (belongs_at m.0.target m.0.place) n found.list.items × tells n found.record × HandFollows z k m.0 n found
+  does z tells k m n m' = (found : Kept) × (m'.0 ≡ next_with z k m.0 n found) × (m'.1 ≡ carried_after m.1 (act_of k n found)) × (n ≤ 1) × Tells z k (number_of m.0.own) (belongs_at m'.0.target m'.0.place) n found.list.items × tells n found.record × HandFollows z k m.0 n found
 
   -- a step of the client, after which its view is c of the word found, and which told something of it
   abbrev pub does_client : (ℕ → C) → (ℕ → Type 0) → Me Kept (WaitView C) → ℕ → Me Kept (WaitView C) → Type 0

@@ -143,7 +143,7 @@ impl<P: Party> WaitTable<P> {
         ensures hand { ListAfter step result.old seat.old seat.new }
         ensures changed { result.changed ≡ writes step }
         ensures told { result.old ≤ 1 }
-        ensures list { Tells (size_of self.now) step (number_of seat.old.view.own) (belongs_at seat.old.view.target seat.old.view.place) result.old seat.new.list }
+        ensures list { Tells (size_of self.now) step (number_of seat.old.view.own) (belongs_at seat.new.view.target seat.new.view.place) result.old seat.new.list }
         ensures barrier { TellsBarrier (P.means self.now.party) (size_of self.now) self.now.phase (P.word_count self.now.party) step seat.old.id (waits_at seat.old.view.place) (party_of seat.old.view) result.old seat.new.record }
     {
         let changed = step.writes();
@@ -166,7 +166,7 @@ impl<P: Party> WaitTable<P> {
         ensures view { seat.new.view ≡ next_with (size_of self.now) step seat.old.view result (as_kept seat.new.list seat.new.record) }
         ensures hand { ListAfter step result seat.old seat.new }
         ensures told { result ≤ 1 }
-        ensures list { Tells (size_of self.now) step (number_of seat.old.view.own) (belongs_at seat.old.view.target seat.old.view.place) result seat.new.list }
+        ensures list { Tells (size_of self.now) step (number_of seat.old.view.own) (belongs_at seat.new.view.target seat.new.view.place) result seat.new.list }
         ensures barrier { TellsBarrier (P.means self.now.party) (size_of self.now) self.now.phase (P.word_count self.now.party) step seat.old.id (waits_at seat.old.view.place) (party_of seat.old.view) result seat.new.record }
     {
         let _ = &self.table;
