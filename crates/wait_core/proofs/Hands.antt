@@ -299,18 +299,18 @@ reset_waits : (p : Place) → waits_at (reset p) ≡ waits_at p
 reset_waits (Resetting c ∷ p) = refl
 reset_waits p = refl
 
-spun_waits : (clear : Bool) (p : Place) → waits_at (spun clear p) ≡ waits_at p
+pub spun_waits : (clear : Bool) (p : Place) → waits_at (spun clear p) ≡ waits_at p
 spun_waits true (Spinning j ∷ p) = refl
 spun_waits false (Spinning j ∷ p) = refl
 spun_waits clear p = refl
 
-taken_waits : (clear : Bool) (found : Kept) (p : Place) → waits_at (taken clear found p) ≡ waits_at p
+pub taken_waits : (clear : Bool) (found : Kept) (p : Place) → waits_at (taken clear found p) ≡ waits_at p
 taken_waits true found (Taking j ∷ p) = refl
 taken_waits false found (Taking j ∷ p) = refl
 taken_waits clear found p = refl
 
 -- the first step of a call
-entered_waits : (t : Option ℕ) (c : Call) (p : Place) → waits_at (entered t c p) ≡ waits_at p
+pub entered_waits : (t : Option ℕ) (c : Call) (p : Place) → waits_at (entered t c p) ≡ waits_at p
 entered_waits None call.Cancel p = refl
 entered_waits (Some s) call.Cancel p = refl
 entered_waits None (call.Prepare c) p = refl

@@ -84,7 +84,13 @@ module _ {C : Type 0} (means : Meanings C) (z : Size) (phase count : ℕ) (s : W
     let wide = r.sized.bars in omega arith,
     inside b below clear,
     counts_seat b below clear id v at,
-    record { state = s; rule = r; here = at_map party_of s.views id v at; counted = sym (lies b below clear (λ r. r.participants)) ∙ r.participants b below },
+    record {
+      state = s;
+      rule = r;
+      here = at_map party_of s.views id v at;
+      counted = sym (lies b below clear (λ r. r.participants)) ∙ r.participants b below;
+      waiting = sym (lies b below clear (λ r. r.arrived)) ∙ (r.arrived b below ∙ ap (λ (n : ℕ). total (waits_from b n) seats) (lies b below clear (λ r. r.phase)));
+    },
   )
 
   pub barrier_tells : (id : ℕ) (v : WaitView C) → get_elem? s.views id ≡ maybe.some v → (o : ℕ) (k : WaitStep) → Permits z k (Some o) v.target v.place → TellsBarrier means z phase count k id (waits_at v.place) (party_of v) (get_or s.words (word_of z o k) 0) (home_in s.homes (slot_number k)).record

@@ -147,19 +147,19 @@ reset p = p
 
 -- A call that begins by taking a spin word, in a seat with this target: it leaves the list of another condition first
 abbrev pub entered : Option ℕ → Call → Place → Place
-entered (Some t) call.Cancel p = Taking (job.Cancel t) ∷ p
-entered (Some t) (call.Prepare c) p = Taking (job.Cancel t) ∷ Preparing c ∷ p
-entered None (call.Prepare c) p = Taking (job.Prepare c) ∷ p
-entered (Some t) (call.Sleep c) p = Taking (job.Cancel t) ∷ Preparing c ∷ p
-entered None (call.Sleep c) p = Taking (job.Prepare c) ∷ p
 entered target (call.Signal c) p = Taking (job.Signal c) ∷ p
-entered (Some t) (call.Broadcast c) p = Taking (job.Cancel t) ∷ Broadcasting c ∷ p
-entered None (call.Broadcast c) p = Taking (job.Broadcast c) ∷ p
 entered target (call.Attach b) p = Taking (job.Attach b) ∷ p
 entered target (call.Arrive b) p = Taking (job.Arrive b) ∷ p
 entered target (call.Detach b) p = Taking (job.Detach b) ∷ p
 entered target (call.ArriveDetach b) p = Taking (job.ArriveDetach b) ∷ p
 entered target (call.ExceptLast b) p = Taking (job.ExceptLast b) ∷ p
+entered (Some t) call.Cancel p = Taking (job.Cancel t) ∷ p
+entered (Some t) (call.Prepare c) p = Taking (job.Cancel t) ∷ Preparing c ∷ p
+entered None (call.Prepare c) p = Taking (job.Prepare c) ∷ p
+entered (Some t) (call.Sleep c) p = Taking (job.Cancel t) ∷ Preparing c ∷ p
+entered None (call.Sleep c) p = Taking (job.Prepare c) ∷ p
+entered (Some t) (call.Broadcast c) p = Taking (job.Cancel t) ∷ Broadcasting c ∷ p
+entered None (call.Broadcast c) p = Taking (job.Broadcast c) ∷ p
 entered target c p = p
 
 -- what a spin word guards, with this list and this record

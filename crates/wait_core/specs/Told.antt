@@ -21,7 +21,7 @@ use lib.ListN.{get_elem?}
 use Rattle.wait_core.specs.Machine.{WaitState, number_of, next_with, act_of}
 use Rattle.wait_core.specs.Stances.{slot_in, hand_at, belongs_at}
 use Rattle.wait_core.specs.Seating.{party_of, client_moved, with_drawn}
-use Rattle.wait_core.specs.Barriers.{attendance_of, takes_part}
+use Rattle.wait_core.specs.Barriers.{attendance_of, takes_part, waits_from}
 use Rattle.wait_core.specs.Rule.{Rule}
 
 -- On the list of the slot x, which was taken in hand, stand backends of the table alone. The backend `own` is on it once, and only where it belongs there; else there is room for it
@@ -60,12 +60,13 @@ slot_then (Free x target) n out = None
 slot_then k n out = out
 
 module _ {C : Type 0} (means : Meanings C) (z : Size) (phase count : ℕ) where
-  -- in a state that meets the rule the client saw the seat so, and the record counts whoever was attached to the barrier
+  -- in a state that meets the rule the client saw the seat so, and the record counts whoever was attached to the barrier, and whoever waited there for the phase to pass
   pub record CountsAttached (b id : ℕ) (v : PartyView C) (r : Record) : Type 0 where
     pub state : WaitState C
     pub rule : Rule means z phase count state
     pub here : get_elem? (map party_of state.views) id ≡ maybe.some v
     pub counted : r.participants ≡ total (takes_part b) (map attendance_of state.views)
+    pub waiting : r.arrived ≡ total (waits_from b r.phase) (map attendance_of state.views)
 
   -- of a seat that waits there, or nowhere. The barrier has a condition
   abbrev pub TellsRecord : Spot → ℕ → Option (ℕ × ℕ) → PartyView C → Record → Type 0
