@@ -4,9 +4,7 @@
 
 mod arrival;
 mod attachment;
-#[cfg(test)]
-mod tests;
 mod visit;
 
-//pub use arrival::arrive_and_wait;
-//pub use attachment::{arrive_and_detach, arrive_and_detach_except_last, attach, detach};
+pub use arrival::arrive_and_wait;
+pub use attachment::{arrive_and_detach, arrive_and_detach_except_last, attach, detach};
