@@ -147,6 +147,11 @@ module _ {C : Type 0} where
   before_last b v found idle ph known inside counts unworn = let is = known_phase b ph v found idle known counts in let most = inside.phase in let ne = eqb-false found.phase last_phase unworn in
       (ph, known, dite (ℕ_discrete ph last_phase) (λ (e : ph ≡ last_phase). absurd (ne (is ∙ e))) (λ apart. omega arith))
 
+-- who had no target has none, whether the phase passed or not
+pub no_target : (passes : Bool) (t : Option ℕ) → t ≡ None → cond {A = Option ℕ} passes None t ≡ None
+no_target true t none = refl
+no_target false t none = none
+
 -- A LOOK in an arrival that waits, from the view l at the place where it looks
 module _ {C : Type 0} (b ph : ℕ) (v l w : WaitView C) (found : Record) (heeds : Bool) (before look : List Made) (at : l ≡ stands v (Taking (job.Notice b ph) ∷ []) (Some b) heeds before) (was : w ≡ visited (job.Notice b ph) found l look) where
   -- the phase has passed, and it leaves the list

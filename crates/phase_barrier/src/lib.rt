@@ -4,6 +4,8 @@
 
 mod arrival;
 mod attachment;
+#[cfg(test)]
+mod tests;
 mod visit;
 
 pub use arrival::arrive_and_wait;
