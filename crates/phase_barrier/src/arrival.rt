@@ -13,7 +13,7 @@ ghost use Rattle.wait_core.specs.Seating.{party_of};
 ghost use Rattle.wait_core.specs.Words.{last_phase};
 ghost use Rattle.phase_barrier.specs.Calls.{Arrived, IsWorn, LooksOut, ended, won};
 
-use crate::visit::{condition_of, has_passed, is_last, is_worn, visit, Purpose};
+use crate::visit::{Purpose, condition_of, has_passed, is_last, is_worn, visit};
 use condition_variable::{broadcast, cancel_sleep, prepare_to_sleep, sleep};
 use proc_table::{BarNo, Worn};
 use std::sync::Wait;

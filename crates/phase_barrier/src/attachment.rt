@@ -13,7 +13,7 @@ ghost use Rattle.wait_core.specs.Told.{CountsAttached};
 ghost use Rattle.phase_barrier.specs.Calls.{Departed, DepartedUnlessOnly, IsBefore, IsWorn, attaching};
 ghost use Rattle.phase_barrier.specs.Visits.{Visits};
 
-use crate::visit::{condition_of, is_awaited, is_last, is_only, is_worn, visit, Purpose};
+use crate::visit::{Purpose, condition_of, is_awaited, is_last, is_only, is_worn, visit};
 use condition_variable::broadcast;
 use proc_table::{BarNo, Worn};
 use std::sync::Wait;

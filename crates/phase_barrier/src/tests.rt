@@ -141,8 +141,7 @@ fn a_sole_participant_passes_the_phase(rt: HostRuntime) -> Result<(), Fail> {
 
 #[test]
 fn the_last_phase_is_worn(rt: HostRuntime) -> Result<(), Fail> {
-    let Ok((table, seat)) =
-        Barriers::new(rt.alloc(), NoParty, 1, 1, 1, 0x4000_0000_0000_0000)
+    let Ok((table, seat)) = Barriers::new(rt.alloc(), NoParty, 1, 1, 1, 0x4000_0000_0000_0000)
     else {
         panic!(rt; "no memory")
     };

@@ -55,7 +55,9 @@ returns-clause-visited g c =
     let v = c.args.seat.now.view in let s = c.take_spot.new.seat in let q : Place = entering c.begins-begins.result v.target v.place in
     let at = ap (λ b. entering b v.target v.place) c.begins-begins.ensures ∙ enters_at c.args.purpose c.args.bar v.target v.place c.requires.place in
     let took = c.take_spot.ensures.view in
-    let more : List Made = took.0 ++ made_with (Free (Bar c.args.bar) v.target) c.step.result.old s.list ∷ [] in
-    (more, visits (size_of c.args.table.now) c.args.purpose c.args.bar c.requires.barrier v s.view s.list s.record took.0 q at took.1 c.step.new.seat.view c.target-target.result c.step.result.old (as_kept c.step.new.seat.list c.step.new.seat.record) c.step.ensures.view c.target-target.ensures
-    ∙ ap (λ (r : Record). visited (job_for c.args.purpose c.args.bar) r v more) (sym c.record_mut-record.ensures.value),
-    record { took = took.0; word = c.step.result.old; list = s.list; split = refl; takes = subst (λ b. Takes (Bar c.args.bar) b s.list took.0) c.begins-begins.ensures took.2 })
+    let more : List Made = took.0 ++ made_with (Free (Bar c.args.bar) v.target) c.step.result.old s.list ∷ [] in (
+      more,
+      visits (size_of c.args.table.now) c.args.purpose c.args.bar c.requires.barrier v s.view s.list s.record took.0 q at took.1 c.step.new.seat.view c.target-target.result c.step.result.old (as_kept c.step.new.seat.list c.step.new.seat.record) c.step.ensures.view c.target-target.ensures
+          ∙ ap (λ (r : Record). visited (job_for c.args.purpose c.args.bar) r v more) (sym c.record_mut-record.ensures.value),
+      record { took = took.0; word = c.step.result.old; list = s.list; split = refl; takes = subst (λ b. Takes (Bar c.args.bar) b s.list took.0) c.begins-begins.ensures took.2 },
+    )
