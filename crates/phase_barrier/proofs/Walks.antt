@@ -1,8 +1,7 @@
 -- The view of a seat along the taking, the change and the sending home of a barrier's record.
-use Rattle.std.proofs.Common.{◌≡◌, ℕ, ◌+◌, ◌<◌, ◌≤◌, ◌==◌, Bool, true, false, cond, List, [], ◌∷◌, ◌++◌, append_assoc, Option, None, Some, refl, sym, ap, ◌∙◌, subst, arith}
+use Rattle.std.proofs.Common.{◌≡◌, ℕ, ◌+◌, ◌<◌, ◌==◌, Bool, true, false, cond, List, [], ◌∷◌, ◌++◌, append_assoc, Option, None, Some, refl, sym, ap, ◌∙◌, subst, arith}
 use Rattle.wait_core.specs.declared.step.Call.{Call}
 use Rattle.wait_core.specs.declared.step.Call.TheVariants as call
-use Rattle.wait_core.specs.declared.step.Spot.{Spot}
 use Rattle.wait_core.specs.declared.step.Spot.TheVariants.{Bar}
 use Rattle.wait_core.specs.declared.step.WaitStep.TheVariants.{Take, Free}
 use Rattle.wait_core.specs.declared.view.Frame.TheVariants.{Taking, Holding, Dozing, Passing, Returning}
@@ -10,7 +9,6 @@ use Rattle.std.specs.Prelude.{not, MatchOption}
 use Rattle.std.proofs.lemmas.Bool.{eqb-false}
 use mathlib.Core.Logic.{dite}
 use native.Mathlib.Decide.{ℕ_discrete}
-use Rattle.wait_core.specs.declared.view.Job.{Job}
 use Rattle.wait_core.specs.declared.view.Job.TheVariants as job
 use Rattle.wait_core.specs.declared.view.Kept.{Kept}
 use Rattle.wait_core.specs.declared.view.Made.{Made}
@@ -19,13 +17,12 @@ use Rattle.wait_core.specs.declared.view.Size.{Size}
 use Rattle.wait_core.specs.declared.view.WaitView.{WaitView}
 use Rattle.wait_core.specs.Words.{last_phase}
 use Rattle.wait_core.specs.Barriers.{JobSuits, StepSuits, asked, waits_at}
-use Rattle.wait_core.specs.Jobs.{spot_of, at_phase, away_from, has_passed, is_worn, left_list as list_left, left_record, attached_after, elections_after, target_after, heeds_after, resumed, goes_on}
+use Rattle.wait_core.specs.Jobs.{spot_of, at_phase, away_from, has_passed, is_worn, left_list as list_left, left_record, target_after, resumed}
 use Rattle.wait_core.specs.Machine.{Place, top, number_of, made_with, as_kept, left_at, taken, next_with, MayTake, Permits}
 use Rattle.wait_core.specs.Meanings.{Meanings}
 use Rattle.wait_core.specs.Parties.{phase_of}
 use Rattle.wait_core.specs.Seating.{party_of}
-use Rattle.wait_core.specs.Seats.{SeatView}
-use Rattle.wait_core.specs.Told.{CountsSeat, FindsPhase, IsInside}
+use Rattle.wait_core.specs.Told.{CountsSeat, IsInside}
 use Rattle.latch.specs.Reads.{went}
 use Rattle.condition_variable.specs.declared.sleeping.Slept.{Slept}
 use Rattle.condition_variable.specs.declared.sleeping.Slept.TheVariants.{Prepared, Signalled}

@@ -1,8 +1,5 @@
-use Rattle.std.proofs.Common.{◌≡◌, ◌+◌, ◌==◌, ◌++◌, ◌∷◌, [], true, false, ℕ, suc, Bool, Option, None, Some, List, append-nil, refl, sym, ap, ◌∙◌, subst}
+use Rattle.std.proofs.Common.{◌+◌, ◌==◌, ◌++◌, [], true, ℕ, suc, Some, append-nil, refl, sym, ap, ◌∙◌, subst}
 use Rattle.wait_core.specs.declared.step.Call.TheVariants as call
-use Rattle.wait_core.specs.declared.view.Frame.TheVariants.{Taking}
-use Rattle.wait_core.specs.declared.view.Job.TheVariants as job
-use Rattle.wait_core.specs.declared.view.Made.{Made}
 use Rattle.wait_core.specs.declared.view.WaitView.{WaitView}
 use Rattle.wait_core.specs.Jobs.{resumed}
 use Rattle.wait_core.specs.Machine.{number_of}
@@ -11,7 +8,6 @@ use Rattle.condition_variable.specs.declared.sleeping.Slept.TheVariants.{Signall
 use Rattle.std.specs.Prelude.{not}
 use Rattle.condition_variable.specs.Visits.{stands}
 use Rattle.condition_variable.specs.Calls.{Cancels, Sleeps}
-use Rattle.phase_barrier.specs.Calls.{LooksOut}
 use Rattle.phase_barrier.proofs.Walks.{left_list, slept_on, own_kept, target_kept, looks_kept, only_signalled, of_some}
 use Rattle.phase_barrier.proofs.arrival.wait_out.Goals as goal
 

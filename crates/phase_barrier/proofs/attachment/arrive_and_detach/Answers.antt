@@ -1,10 +1,9 @@
-use Rattle.std.proofs.Common.{◌≡◌, ◌<◌, ◌++◌, ◌∷◌, [], true, false, cond, ℕ, Bool, Option, None, Some, List, refl, sym, ap, ◌∙◌, subst}
+use Rattle.std.proofs.Common.{◌≡◌, ◌++◌, [], true, false, cond, ℕ, Bool, sym, ap, ◌∙◌, subst}
 use Rattle.wait_core.specs.declared.step.Call.TheVariants as call
-use Rattle.wait_core.specs.Barriers.{waits_at}
-use Rattle.wait_core.specs.Jobs.{away_from, is_last, is_worn, passes_on, resumed}
+use Rattle.wait_core.specs.Jobs.{away_from, is_last, is_worn, passes_on}
 use Rattle.wait_core.specs.Machine.{number_of}
 use Rattle.condition_variable.specs.Calls.{Broadcasts}
-use Rattle.phase_barrier.proofs.Walks.{known_phase, before_last, left_quietly, left_passing}
+use Rattle.phase_barrier.proofs.Walks.{before_last, left_quietly, left_passing}
 use Rattle.phase_barrier.proofs.attachment.arrive_and_detach.Goals.{then-is_last, else-is_last}
 use Rattle.phase_barrier.proofs.attachment.arrive_and_detach.Goals as goal
 

@@ -1,6 +1,5 @@
-use Rattle.std.proofs.Common.{◌≡◌, ◌++◌, ◌∷◌, [], true, false, ℕ, Bool, Option, None, List, refl, sym, ap, ◌∙◌, subst}
+use Rattle.std.proofs.Common.{◌≡◌, ◌++◌, [], true, false, ℕ, Bool, sym, ap, ◌∙◌, subst}
 use Rattle.wait_core.specs.declared.step.Call.TheVariants as call
-use Rattle.wait_core.specs.declared.view.WaitView.{WaitView}
 use Rattle.wait_core.specs.Jobs.{away_from, is_awaited, passes_on}
 use Rattle.wait_core.specs.Machine.{number_of}
 use Rattle.condition_variable.specs.Calls.{Broadcasts}

@@ -1,4 +1,4 @@
-use Rattle.std.proofs.Common.{◌≡◌, ◌+◌, ℕ, cond, List, ap, ◌∙◌}
+use Rattle.std.proofs.Common.{◌+◌, cond, ap, ◌∙◌}
 use Rattle.wait_core.specs.declared.view.WaitView.{WaitView}
 use Rattle.wait_core.specs.Jobs.{at_phase, away_from}
 use Rattle.wait_core.specs.Parties.{phase_of}

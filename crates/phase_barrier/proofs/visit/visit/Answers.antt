@@ -1,16 +1,14 @@
-use Rattle.std.proofs.Common.{◌≡◌, ◌<◌, ◌++◌, ◌∷◌, [], true, ℕ, Option, List, refl, sym, ap, ◌∙◌, subst}
+use Rattle.std.proofs.Common.{◌++◌, ◌∷◌, [], List, refl, sym, ap, ◌∙◌, subst}
 use Rattle.wait_core.specs.declared.step.WaitStep.TheVariants.{Take, Free}
 use Rattle.wait_core.specs.declared.step.Spot.TheVariants.{Bar}
 use Rattle.wait_core.specs.declared.view.Made.{Made}
 use Rattle.wait_core.specs.declared.view.Record.{Record}
-use Rattle.wait_core.specs.declared.view.WaitView.{WaitView}
 use Rattle.wait_core.specs.Barriers.{StepSuits, waits_at}
 use Rattle.wait_core.specs.Jobs.{left_record}
-use Rattle.wait_core.specs.Machine.{made_with, Permits, Place, as_kept, taken, top}
+use Rattle.wait_core.specs.Machine.{made_with, Permits, Place, as_kept}
 use Rattle.wait_core.specs.Parties.{phase_of}
 use Rattle.wait_core.specs.Seats.{size_of}
 use Rattle.wait_core.specs.Told.{CountsSeat, IsInside}
-use Rattle.latch.specs.Reads.{went}
 use Rattle.condition_variable.specs.Visits.{Takes, entering}
 use Rattle.phase_barrier.specs.Visits.{job_for, visited}
 use Rattle.phase_barrier.proofs.Walks.{enters_at, permits_visit, takes_job, suits_visit, may_leave, may_free, sends, visits}
