@@ -22,6 +22,7 @@ pub mod BarriersKept
 pub mod Attending
 pub mod Passing
 pub mod Arriving
+pub mod Dozing
 pub mod RecordsTold
 pub mod RuleKept
 pub mod Untouched
