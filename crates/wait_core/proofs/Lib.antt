@@ -23,6 +23,7 @@ pub mod Attending
 pub mod Passing
 pub mod Arriving
 pub mod Dozing
+pub mod ArrivalsHeed
 pub mod RecordsTold
 pub mod RuleKept
 pub mod Untouched

@@ -20,6 +20,7 @@ use Rattle.wait_core.specs.Seating.{Standing, fresh}
 use Rattle.wait_core.specs.Places.{may_sleep, past_latch, past_shutdown, backend_count}
 use Rattle.wait_core.specs.Fits.{PlacesFit}
 use Rattle.wait_core.specs.Slots.{opening_record, AllAsOpened, OpeningSlots}
+use Rattle.wait_core.specs.ArrivalsHeed.{HeedsInArrival}
 use Rattle.wait_core.specs.LeftAreFree.{LeftAreFree}
 use Rattle.wait_core.specs.Barriers.{Attendance, attendance_of, waits_at, asks_at, field_of, phase_in, phases, KnowsPhases, IsWaiter, JobSuits}
 use Rattle.wait_core.specs.Promises.{IsOpening}
@@ -107,6 +108,7 @@ module _ {C : Type 0} (means : Meanings C) (z : Size) (phase count : ℕ) (f : �
     made = λ i above below. let a = zero_at i above below in omega arith;
     lists_made = lists_made_open z phase xs (Some 0) new.count new.each;
     lists = lists_open z phase (opening_words z f count) xs zero_at new;
+    heeds = each_more HeedsInArrival [] (fresh c (Some 0)) (λ i v e. absurd (maybe.some-ne-none v (sym e))) (λ settled. absurd (cc));
     left = only_numbered;
     barriers = subst (Barriers (newcomer c (Some 0) ∷ [])) (sym stay) (barriers_more [] (opening_phases z phase) c (Some 0) nobody);
     known = each_more (KnowsPhases (phases z (map maybe.some xs) (start ∷ []))) [] start (λ i v e. absurd (maybe.some-ne-none v (sym e))) (λ b ph e. absurd (cc));

@@ -22,5 +22,8 @@ is_settled (Holding j list found ∷ p) = cond (is_notice j) true (is_settled p)
 is_settled (f ∷ p) = is_settled p
 
 -- a seat in such an arrival didn't reset its latch by itself since it was listed
+abbrev pub HeedsInArrival : {C : Type 0} → WaitView C → Type 0
+HeedsInArrival v = is_settled v.place ≡ true → v.heeds ≡ true
+
 abbrev pub ArrivalsHeed : {C : Type 0} → List (WaitView C) → Type 0
-ArrivalsHeed {C} views = (id : ℕ) (v : WaitView C) → get_elem? views id ≡ maybe.some v → is_settled v.place ≡ true → v.heeds ≡ true
+ArrivalsHeed {C} views = (id : ℕ) (v : WaitView C) → get_elem? views id ≡ maybe.some v → HeedsInArrival v
