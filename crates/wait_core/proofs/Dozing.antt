@@ -24,21 +24,21 @@ use Rattle.wait_core.specs.Fits.{BehindPrepare, BehindSleep, BehindBroadcast, Be
 use Rattle.wait_core.specs.Stances.{sentinel_at}
 use Rattle.wait_core.specs.Barriers.{waits_at, asked}
 use Rattle.wait_core.specs.ArrivalsHeed.{is_notice, is_settled}
-use Rattle.wait_core.specs.PassedPhaseIsBroadcast.{dozes_at, passed_at, goes_further, has_freed}
+use Rattle.wait_core.specs.PassedPhaseIsBroadcast.{dozes, passed_at, goes_further, has_freed}
 use Rattle.wait_core.proofs.Attachments.{waited, same_waited}
 use Rattle.wait_core.proofs.Effects.{alone_idle, at_top}
 use Rattle.wait_core.proofs.Hands.{IsNoFree}
 
 -- the sleep of an arrival; a phase that was passed, and whether its broadcast has freed the list; and whether the seat has to heed its signal
 abbrev pub Course : Type 0
-Course = Option (ℕ × ℕ) × Option (ℕ × ℕ) × Bool × Bool
+Course = Bool × Option (ℕ × ℕ) × Bool × Bool
 
 abbrev pub course : Place → Course
-course p = (dozes_at p, passed_at p, has_freed p, is_settled p)
+course p = (dozes p, passed_at p, has_freed p, is_settled p)
 
 -- the same, where no list was freed
 abbrev unfreed : Place → Course
-unfreed p = (dozes_at p, passed_at p, false, is_settled p)
+unfreed p = (dozes p, passed_at p, false, is_settled p)
 
 -- a broadcast ends whose sentinel is off the list
 abbrev pub Ends : Option ℕ → Place → Place → Type 0
@@ -182,7 +182,7 @@ course_follows z t Drain own o n found p apart ok fit = inl (drained_goes p ok)
 course_follows z t (Shload (Some c)) own o n found p apart ok fit = inl refl
 course_follows z t (Shload None) own o n found p apart ok fit = top_goes t p _ CheckingShutdown ok (inl (either_course (eqb n 0) (Looking LatchOrShutdown ∷ outer p) (LeavingShutdown ∷ outer p) (unfreed (outer p)) refl refl))
 course_follows z t (Shstore b) own o n found p apart ok fit = inl (subst (λ (q : Place). course (Stopping 0 ∷ q) ≡ course q) (sym (alone_idle call.Shut p tt ok.1)) refl)
-course_follows z t (Take x (Some c)) own o n found p apart ok fit = inl (entered_course (eqb n 0) found t c x p ok.1 ∙ (λ i. (dozes_at p, passed_at p, sym (begin_unfreed t c x p ok.1 ok.3) i, is_settled p)))
+course_follows z t (Take x (Some c)) own o n found p apart ok fit = inl (entered_course (eqb n 0) found t c x p ok.1 ∙ (λ i. (dozes p, passed_at p, sym (begin_unfreed t c x p ok.1 ok.3) i, is_settled p)))
 course_follows z t (Take x None) own o n found p apart ok fit = inl (taken_goes x (eqb n 0) found p ok.1)
 course_follows z t (Spin x) own o n found p apart ok fit = inl (spun_goes x (eqb n 0) p ok.1)
 course_follows z t (Free x after) own o n found p apart ok fit = absurd apart
@@ -192,13 +192,13 @@ settled_either : (x : Bool) → cond x true true ≡ true
 settled_either true = refl
 settled_either false = refl
 
-settled_dozing : (b ph : ℕ) (p : Place) → dozes_at p ≡ Some (b, ph) → is_settled p ≡ true
-settled_dozing b ph [] is = absurd (cc)
-settled_dozing b ph (Dozing d g ∷ p) is = refl
-settled_dozing b ph (Taking j ∷ p) is = ap (cond (is_notice j) true) (settled_dozing b ph p is) ∙ settled_either (is_notice j)
-settled_dozing b ph (Spinning j ∷ p) is = ap (cond (is_notice j) true) (settled_dozing b ph p is) ∙ settled_either (is_notice j)
-settled_dozing b ph (Holding j l r ∷ p) is = ap (cond (is_notice j) true) (settled_dozing b ph p is) ∙ settled_either (is_notice j)
-settled_dozing b ph (f ∷ p) is = settled_dozing b ph p is
+settled_dozing : (p : Place) → dozes p ≡ true → is_settled p ≡ true
+settled_dozing [] is = is
+settled_dozing (Dozing d g ∷ p) is = refl
+settled_dozing (Taking j ∷ p) is = ap (cond (is_notice j) true) (settled_dozing p is) ∙ settled_either (is_notice j)
+settled_dozing (Spinning j ∷ p) is = ap (cond (is_notice j) true) (settled_dozing p is) ∙ settled_either (is_notice j)
+settled_dozing (Holding j l r ∷ p) is = ap (cond (is_notice j) true) (settled_dozing p is) ∙ settled_either (is_notice j)
+settled_dozing (f ∷ p) is = settled_dozing p is
 
 -- THE FREE OF A SPIN WORD. Only who is listed, sleeps in an arrival or notices nothing is settled after it
 settled_none : (p : Place) → p ≡ [] → is_settled p ≡ false
@@ -292,45 +292,41 @@ module _ (cvs : ℕ) (t : Option ℕ) (own : ℕ) (list : List ℕ) (found : Rec
   freed_heeds j p fit h heeds settled = heeds_apart j p tt fit h heeds settled
 
   -- who sleeps in an arrival then slept there before, and is on the list; or it found that its phase hasn't passed
-  abbrev pub StillDozes : Job → Place → ℕ → ℕ → Type 0
-  StillDozes j p b ph = ((j ≡ job.Resleep b) × (dozes_at p ≡ Some (b, ph)) × (is_listed own list ≡ true)) ⊎ ((j ≡ job.Notice b ph) × (p ≡ []) × (has_passed ph found ≡ false))
+  abbrev pub StillDozes : Job → Place → Type 0
+  StillDozes j p = ((dozes p ≡ true) × (is_listed own list ≡ true) × ((c : ℕ) × (j ≡ job.Resleep c))) ⊎ ((d : ℕ) × (g : ℕ) × (j ≡ job.Notice d g) × (has_passed g found ≡ false))
 
-  abbrev DozesAfter : Job → Place → Type 0
-  DozesAfter j p = (b ph : ℕ) → dozes_at (goes_on j own list found p) ≡ Some (b, ph) → StillDozes j p b ph
-
-  resleep_dozes : (c : ℕ) (p : Place) → BehindSleep c p → DozesAfter (job.Resleep c) p
-  resleep_dozes c [] fit b ph is = absurd (let none = by_test (is_listed own list) in cc)
+  resleep_dozes : (c : ℕ) (p : Place) → BehindSleep c p → dozes (goes_on (job.Resleep c) own list found p) ≡ true → StillDozes (job.Resleep c) p
+  resleep_dozes c p fit is = by_test (is_listed own list) refl is
     where
-      by_test : (l : Bool) → dozes_at (cond l (SleepWaiting c ∷ []) []) ≡ None
-      by_test true = refl
-      by_test false = refl
-  resleep_dozes c (Dozing d g ∷ p) fit b ph is = by_test (is_listed own list) refl is
-    where
-      by_test : (l : Bool) → is_listed own list ≡ l → dozes_at (cond l (SleepWaiting c ∷ Dozing d g ∷ p) (Taking (job.Notice d g) ∷ p)) ≡ Some (b, ph) → StillDozes (job.Resleep c) (Dozing d g ∷ p) b ph
-      by_test true there e = inl (ap job.Resleep (sym fit.0 ∙ (same_waited d g b ph e).0), e, there)
-      by_test false there e = absurd (let none = ap dozes_at fit.1 in cc)
-  resleep_dozes c (f ∷ p) fit b ph is = absurd fit
+      noticing : (p : Place) → BehindSleep c p → dozes (resumed p) ≡ true → ⊥
+      noticing [] fit is = cc
+      noticing (Dozing d g ∷ p) fit is = let none = ap dozes fit.1 in cc
+      noticing (f ∷ p) fit is = fit
 
-  notice_dozes : (d g : ℕ) (p : Place) → p ≡ [] → DozesAfter (job.Notice d g) p
-  notice_dozes d g p none b ph is = by_test (has_passed g found) refl is
-    where
-      by_test : (passed : Bool) → has_passed g found ≡ passed → dozes_at (cond passed (Returning d g ∷ p) (Dozing d g ∷ p)) ≡ Some (b, ph) → StillDozes (job.Notice d g) p b ph
-      by_test true e is' = absurd (let no = ap dozes_at none in cc)
-      by_test false e is' = let same = same_waited d g b ph is' in inr ((λ i. job.Notice (same.0 i) (same.1 i)), none, ap (λ (n : ℕ). has_passed n found) (sym same.1) ∙ e)
+      by_test : (l : Bool) → is_listed own list ≡ l → dozes (cond l (SleepWaiting c ∷ p) (resumed p)) ≡ true → StillDozes (job.Resleep c) p
+      by_test true there e = inl (e, there, (c, refl))
+      by_test false there e = absurd (noticing p fit e)
 
-  prepare_dozes : (c : ℕ) (p : Place) → BehindPrepare c p → dozes_at (resumed p) ≡ None
+  notice_dozes : (d g : ℕ) (p : Place) → p ≡ [] → dozes (goes_on (job.Notice d g) own list found p) ≡ true → StillDozes (job.Notice d g) p
+  notice_dozes d g p none is = by_test (has_passed g found) refl is
+    where
+      by_test : (passed : Bool) → has_passed g found ≡ passed → dozes (cond passed (Returning d g ∷ p) (Dozing d g ∷ p)) ≡ true → StillDozes (job.Notice d g) p
+      by_test true e is' = absurd (let no = ap dozes none in cc)
+      by_test false e is' = inr (d, g, refl, e)
+
+  prepare_dozes : (c : ℕ) (p : Place) → BehindPrepare c p → dozes (resumed p) ≡ false
   prepare_dozes c [] fit = refl
-  prepare_dozes c (Settling b ph ∷ p) fit = ap dozes_at fit.1
+  prepare_dozes c (Settling b ph ∷ p) fit = ap dozes fit.1
   prepare_dozes c (f ∷ p) fit = absurd fit
 
-  dozes_apart : (j : Job) (p : Place) → Unsettles j → JobFits cvs t j p → DozesAfter j p
-  dozes_apart j p other fit b ph is = absurd (let none = unsettled j p other fit in let some = settled_dozing b ph (goes_on j own list found p) is in cc)
+  dozes_apart : (j : Job) (p : Place) → Unsettles j → JobFits cvs t j p → dozes (goes_on j own list found p) ≡ true → StillDozes j p
+  dozes_apart j p other fit is = absurd (let none = unsettled j p other fit in let some = settled_dozing (goes_on j own list found p) is in cc)
 
-  pub freed_dozes : (j : Job) (p : Place) → JobFits cvs t j p → DozesAfter j p
-  freed_dozes (job.Prepare c) p fit b ph is = absurd (let none = prepare_dozes c p fit.2 in cc)
-  freed_dozes (job.Resleep c) p fit b ph is = resleep_dozes c p fit.2 b ph is
-  freed_dozes (job.Notice d g) p fit b ph is = notice_dozes d g p fit.2 b ph is
-  freed_dozes j p fit b ph is = dozes_apart j p tt fit b ph is
+  pub freed_dozes : (j : Job) (p : Place) → JobFits cvs t j p → dozes (goes_on j own list found p) ≡ true → StillDozes j p
+  freed_dozes (job.Prepare c) p fit is = absurd (let none = prepare_dozes c p fit.2 in cc)
+  freed_dozes (job.Resleep c) p fit is = resleep_dozes c p fit.2 is
+  freed_dozes (job.Notice d g) p fit is = notice_dozes d g p fit.2 is
+  freed_dozes j p fit is = dozes_apart j p tt fit is
 
   -- A PASSER leaves its target's list first; then it has the list of its broadcast in hand
   abbrev pub PassesOn : Job → Place → ℕ → ℕ → Type 0
@@ -392,8 +388,8 @@ module _ (cvs : ℕ) (t : Option ℕ) (own : ℕ) (list : List ℕ) (found : Rec
   -- A PHASE PASSES by the free of one who broadcasts then, or who is the only one that takes part
   abbrev pub Passes : Job → Place → ℕ → Type 0
   Passes j p b = ((left_record j found).phase ≡ found.phase)
-      ⊎ (((passed_at (goes_on j own list found p) ≡ Some (b, found.phase)) × (has_freed (goes_on j own list found p) ≡ false) × (dozes_at (goes_on j own list found p) ≡ None))
-      ⊎ ((found.participants ≡ 1) × (j ≡ job.ExceptLast b) × (dozes_at (goes_on j own list found p) ≡ None)))
+      ⊎ (((passed_at (goes_on j own list found p) ≡ Some (b, found.phase)) × (has_freed (goes_on j own list found p) ≡ false) × (dozes (goes_on j own list found p) ≡ false))
+      ⊎ ((found.participants ≡ 1) × (j ≡ job.ExceptLast b) × (dozes (goes_on j own list found p) ≡ false)))
 
   bar_is : (d b : ℕ) → Bar d ≡ Bar b → d ≡ b
   bar_is d b e = cc
@@ -404,9 +400,9 @@ module _ (cvs : ℕ) (t : Option ℕ) (own : ℕ) (list : List ℕ) (found : Rec
     where
       by_test : (worn last : Bool) → let left = cond worn found (cond last (record { phase = found.phase + 1; participants = found.participants; arrived = 0; elected = found.phase + 1 }) (record found { arrived = found.arrived + 1 })) in
           let q = cond worn (resumed p) (cond last (Passing d found.phase ∷ p) (Settling d found.phase ∷ p)) in
-          (left.phase ≡ found.phase) ⊎ (((passed_at q ≡ Some (b, found.phase)) × (has_freed q ≡ false) × (dozes_at q ≡ None)) ⊎ ((found.participants ≡ 1) × (job.Arrive d ≡ job.ExceptLast b) × (dozes_at q ≡ None)))
+          (left.phase ≡ found.phase) ⊎ (((passed_at q ≡ Some (b, found.phase)) × (has_freed q ≡ false) × (dozes q ≡ false)) ⊎ ((found.participants ≡ 1) × (job.Arrive d ≡ job.ExceptLast b) × (dozes q ≡ false)))
       by_test true last = inl refl
-      by_test false true = inr (inl (ap (λ (n : ℕ). waited n found.phase) (bar_is d b is), refl, ap dozes_at fit.1))
+      by_test false true = inr (inl (ap (λ (n : ℕ). waited n found.phase) (bar_is d b is), refl, ap dozes fit.1))
       by_test false false = inl refl
   phase_passes (job.Notice d g) p b fit is = inl (by_test (has_passed g found))
     where
@@ -416,22 +412,22 @@ module _ (cvs : ℕ) (t : Option ℕ) (own : ℕ) (list : List ℕ) (found : Rec
   phase_passes (job.Detach d) p b fit is = by_test (is_awaited found)
     where
       by_test : (passes : Bool) → let q = passes_on passes d found p in
-          ((departed passes found).phase ≡ found.phase) ⊎ (((passed_at q ≡ Some (b, found.phase)) × (has_freed q ≡ false) × (dozes_at q ≡ None)) ⊎ ((found.participants ≡ 1) × (job.Detach d ≡ job.ExceptLast b) × (dozes_at q ≡ None)))
-      by_test true = inr (inl (ap (λ (n : ℕ). waited n found.phase) (bar_is d b is), refl, ap dozes_at fit.1))
+          ((departed passes found).phase ≡ found.phase) ⊎ (((passed_at q ≡ Some (b, found.phase)) × (has_freed q ≡ false) × (dozes q ≡ false)) ⊎ ((found.participants ≡ 1) × (job.Detach d ≡ job.ExceptLast b) × (dozes q ≡ false)))
+      by_test true = inr (inl (ap (λ (n : ℕ). waited n found.phase) (bar_is d b is), refl, ap dozes fit.1))
       by_test false = inl refl
   phase_passes (job.ArriveDetach d) p b fit is = by_test (is_worn found) (is_last found)
     where
       by_test : (worn last : Bool) → let q = cond worn (resumed p) (passes_on last d found p) in
-          ((cond worn found (departed last found)).phase ≡ found.phase) ⊎ (((passed_at q ≡ Some (b, found.phase)) × (has_freed q ≡ false) × (dozes_at q ≡ None)) ⊎ ((found.participants ≡ 1) × (job.ArriveDetach d ≡ job.ExceptLast b) × (dozes_at q ≡ None)))
+          ((cond worn found (departed last found)).phase ≡ found.phase) ⊎ (((passed_at q ≡ Some (b, found.phase)) × (has_freed q ≡ false) × (dozes q ≡ false)) ⊎ ((found.participants ≡ 1) × (job.ArriveDetach d ≡ job.ExceptLast b) × (dozes q ≡ false)))
       by_test true last = inl refl
-      by_test false true = inr (inl (ap (λ (n : ℕ). waited n found.phase) (bar_is d b is), refl, ap dozes_at fit.1))
+      by_test false true = inr (inl (ap (λ (n : ℕ). waited n found.phase) (bar_is d b is), refl, ap dozes fit.1))
       by_test false false = inl refl
   phase_passes (job.ExceptLast d) p b fit is = by_test (is_worn found) (is_only found) refl
     where
       by_test : (worn only : Bool) → is_only found ≡ only →
           ((cond worn found (cond only (record found { phase = found.phase + 1 }) (record found { participants = found.participants - 1 }))).phase ≡ found.phase)
-          ⊎ (((passed_at (resumed p) ≡ Some (b, found.phase)) × (has_freed (resumed p) ≡ false) × (dozes_at (resumed p) ≡ None)) ⊎ ((found.participants ≡ 1) × (job.ExceptLast d ≡ job.ExceptLast b) × (dozes_at (resumed p) ≡ None)))
+          ⊎ (((passed_at (resumed p) ≡ Some (b, found.phase)) × (has_freed (resumed p) ≡ false) × (dozes (resumed p) ≡ false)) ⊎ ((found.participants ≡ 1) × (job.ExceptLast d ≡ job.ExceptLast b) × (dozes (resumed p) ≡ false)))
       by_test true only e = inl refl
-      by_test false true e = inr (inr (eqb-true found.participants 1 e, ap job.ExceptLast (bar_is d b is), ap (λ (q : Place). dozes_at (resumed q)) fit))
+      by_test false true e = inr (inr (eqb-true found.participants 1 e, ap job.ExceptLast (bar_is d b is), ap (λ (q : Place). dozes (resumed q)) fit))
       by_test false false e = inl refl
   phase_passes j p b fit is = absurd (cc)

@@ -9,14 +9,14 @@ use Rattle.wait_core.specs.declared.view.Size.{Size}
 use Rattle.wait_core.specs.declared.view.WaitView.{WaitView}
 use Rattle.wait_core.specs.Machine.{WaitState, Place}
 use Rattle.wait_core.specs.Parties.{now}
-use Rattle.wait_core.specs.Barriers.{phases_in}
+use Rattle.wait_core.specs.Barriers.{waits_at, phases_in}
 use Rattle.wait_core.specs.Broadcasts.{listed_on, StandsBehind}
 
--- where an arrival is in its sleep: the barrier, and the phase that it waits from
-abbrev pub dozes_at : Place → Option (ℕ × ℕ)
-dozes_at [] = None
-dozes_at (Dozing b ph ∷ p) = Some (b, ph)
-dozes_at (f ∷ p) = dozes_at p
+-- an arrival is in its sleep
+abbrev pub dozes : Place → Bool
+dozes [] = false
+dozes (Dozing b ph ∷ p) = true
+dozes (f ∷ p) = dozes p
 
 -- where a call passed a phase, and hasn't ended its broadcast: the barrier, and the phase
 abbrev pub passed_at : Place → Option (ℕ × ℕ)
@@ -40,16 +40,17 @@ has_freed (Holding j list found ∷ p) = goes_further j
 has_freed p = false
 
 module _ {C : Type 0} where
-  -- somebody who passed this phase of the barrier is broadcasting, and hasn't freed the list yet, or its sentinel stands behind p
+  -- another than p passed this phase of the barrier and is broadcasting, and hasn't freed the list yet, or its sentinel stands behind p
   pub record IsBroadcastTo (p b ph : ℕ) (s : WaitState C) : Type 0 where
     pub id : ℕ
     pub number : ℕ
     pub view : WaitView C
     pub at : get_elem? s.views id ≡ maybe.some view
     pub own : view.own ≡ Some number
+    pub apart : number ≡ p → ⊥
     pub passed : passed_at view.place ≡ Some (b, ph)
     pub reaches : (has_freed view.place ≡ false) ⊎ StandsBehind number p b s
 
-  -- that is so wherever p is in the sleep of its arrival, from a phase that has passed, and is listed
+  -- that is so of whoever is listed in the sleep of its arrival, where the phase that it waits from has passed
   abbrev pub PassedPhaseIsBroadcast : Size → WaitState C → Type 0
-  PassedPhaseIsBroadcast z s = (id p b ph : ℕ) (v : WaitView C) → get_elem? s.views id ≡ maybe.some v → v.own ≡ Some p → dozes_at v.place ≡ Some (b, ph) → ph < now (phases_in z s) b → 1 ≤ listed_on p b s → IsBroadcastTo p b ph s
+  PassedPhaseIsBroadcast z s = (id p b ph : ℕ) (v : WaitView C) → get_elem? s.views id ≡ maybe.some v → v.own ≡ Some p → waits_at v.place ≡ Some (b, ph) → dozes v.place ≡ true → ph < now (phases_in z s) b → 1 ≤ listed_on p b s → IsBroadcastTo p b ph s
