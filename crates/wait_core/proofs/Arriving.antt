@@ -83,7 +83,7 @@ apart_frees (Free x target) apart = absurd apart
 apart_frees k apart = tt
 
 -- is made with nothing in hand
-apart_free : (z : Size) (k : WaitStep) (own t : Option ℕ) (p : Place) → IsApart k → Permits z k own t p → slot_in (hand_at p) ≡ None
+pub apart_free : (z : Size) (k : WaitStep) (own t : Option ℕ) (p : Place) → IsApart k → Permits z k own t p → slot_in (hand_at p) ≡ None
 apart_free z k own t (Holding j list found ∷ p) apart ok = absurd (by_kind k apart ok)
   where
     by_kind : (k : WaitStep) → IsApart k → Permits z k own t (Holding j list found ∷ p) → ⊥

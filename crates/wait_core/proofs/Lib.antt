@@ -24,6 +24,7 @@ pub mod Passing
 pub mod Arriving
 pub mod Dozing
 pub mod ArrivalsHeed
+pub mod PassedPhaseIsBroadcast
 pub mod RecordsTold
 pub mod RuleKept
 pub mod Untouched

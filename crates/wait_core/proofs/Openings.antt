@@ -1,5 +1,5 @@
 -- The table at its opening meets the rule.
-use Rattle.std.proofs.Common.{◌≡◌, ℕ, zero, suc, ◌+◌, ◌<◌, ◌≤◌, Bool, false, List, [], ◌∷◌, ◌++◌, length, map, drop, get_or, set, Option, None, Some, refl, sym, ap, ◌∙◌, subst, arith, length-append, length-set, get_or-set_same, get_or-set_other}
+use Rattle.std.proofs.Common.{◌≡◌, ℕ, zero, suc, ◌+◌, ◌<◌, ◌≤◌, Bool, true, false, List, [], ◌∷◌, ◌++◌, length, map, drop, get_or, set, Option, None, Some, refl, sym, ap, ◌∙◌, subst, arith, length-append, length-set, get_or-set_same, get_or-set_other}
 use Rattle.std.specs.Prelude.{replicate}
 use Rattle.std.proofs.lemmas.List.{length-replicate, length-map, get_or-replicate, get_or_append_left}
 use Rattle.std.proofs.Math.Seq.{drop-append_seam}
@@ -12,6 +12,7 @@ use Rattle.wait_core.specs.declared.view.Kept.{Kept}
 use Rattle.wait_core.specs.declared.view.PartyView.{PartyView}
 use Rattle.wait_core.specs.declared.view.Record.{Record}
 use Rattle.wait_core.specs.declared.view.Size.{Size}
+use Rattle.wait_core.specs.declared.view.WaitView.{WaitView}
 use Rattle.wait_core.specs.Meanings.{Meanings}
 use Rattle.wait_core.specs.Words.{most_conditions, last_phase, slot_of, may_at, client_base, opening_phases, opened, opening_words}
 use Rattle.wait_core.specs.Machine.{WaitState, home_in}
@@ -21,6 +22,7 @@ use Rattle.wait_core.specs.Places.{may_sleep, past_latch, past_shutdown, backend
 use Rattle.wait_core.specs.Fits.{PlacesFit}
 use Rattle.wait_core.specs.Slots.{opening_record, AllAsOpened, OpeningSlots}
 use Rattle.wait_core.specs.ArrivalsHeed.{HeedsInArrival}
+use Rattle.wait_core.specs.PassedPhaseIsBroadcast.{dozes}
 use Rattle.wait_core.specs.LeftAreFree.{LeftAreFree}
 use Rattle.wait_core.specs.Barriers.{Attendance, attendance_of, waits_at, asks_at, field_of, phase_in, phases, KnowsPhases, IsWaiter, JobSuits}
 use Rattle.wait_core.specs.Promises.{IsOpening}
@@ -109,6 +111,7 @@ module _ {C : Type 0} (means : Meanings C) (z : Size) (phase count : ℕ) (f : �
     lists_made = lists_made_open z phase xs (Some 0) new.count new.each;
     lists = lists_open z phase (opening_words z f count) xs zero_at new;
     heeds = each_more HeedsInArrival [] (fresh c (Some 0)) (λ i v e. absurd (maybe.some-ne-none v (sym e))) (λ settled. absurd (cc));
+    broadcasts = λ i p b ph v at own waits dozing late listed. absurd (each_more (λ (u : WaitView C). dozes u.place ≡ true → ⊥) [] (fresh c (Some 0)) (λ i v e. absurd (maybe.some-ne-none v (sym e))) (λ dozing. cc) i v at dozing);
     left = only_numbered;
     barriers = subst (Barriers (newcomer c (Some 0) ∷ [])) (sym stay) (barriers_more [] (opening_phases z phase) c (Some 0) nobody);
     known = each_more (KnowsPhases (phases z (map maybe.some xs) (start ∷ []))) [] start (λ i v e. absurd (maybe.some-ne-none v (sym e))) (λ b ph e. absurd (cc));

@@ -34,6 +34,7 @@ use Rattle.wait_core.proofs.Attachments.{none_waited}
 use Rattle.wait_core.specs.Stances.{Homes}
 use Rattle.wait_core.proofs.Attending.{here_idle, unmoved, moved}
 use Rattle.wait_core.proofs.Arriving.{attended, few_views}
+use Rattle.wait_core.proofs.PassedPhaseIsBroadcast.{broadcast_set, broadcast_more, broadcast_spent}
 use Rattle.wait_core.proofs.BarriersKept.{elected_either, nobody_elected, barriers_more, barriers_joined}
 use Rattle.wait_core.proofs.Turns.{first as is_first, client as is_client}
 use Rattle.wait_core.specs.ListsAreMade.{ListsAreMade}
@@ -100,6 +101,7 @@ module _ {C : Type 0} (means : Meanings C) (z : Size) (phase count : ℕ) where
         lists_made = subst (ListsAreMade z s.homes) (sym (unseen doings_of s.views id v w at refl)) r.lists_made;
         lists = lists_apart z r.sized.cvs (get_or s.words 0 0) s.words s.homes s.views (omega (arith, r.sized.long)) r.flags r.roster r.lists id v at (b + k) (f n) w (is_client (omega arith)) refl;
         heeds = each_set HeedsInArrival s.views id w r.heeds (r.heeds id v at);
+        broadcasts = broadcast_set z s (set s.words (b + k) (f n)) id v w at refl refl r.broadcasts;
         left = b'.left;
         barriers = b'.barriers;
         known = b'.known;
@@ -139,6 +141,7 @@ module _ {C : Type 0} (means : Meanings C) (z : Size) (phase count : ℕ) where
         lists_made = subst (ListsAreMade z s.homes) (sym (unseen doings_of s.views id v w at refl)) r.lists_made;
         lists = lists_apart z r.sized.cvs (get_or s.words 0 0) s.words s.homes s.views (omega (arith, long)) r.flags r.roster r.lists id v at 0 x w (is_first refl) refl;
         heeds = each_set HeedsInArrival s.views id w r.heeds (r.heeds id v at);
+        broadcasts = broadcast_set z s (set s.words 0 x) id v w at refl refl r.broadcasts;
         left = b.left;
         barriers = b.barriers;
         known = b.known;
@@ -184,6 +187,7 @@ module _ {C : Type 0} (means : Meanings C) (z : Size) (phase count : ℕ) where
         lists_made = subst (ListsAreMade z s.homes) (sym (map-append doings_of vs (w ∷ []) ∙ ap (λ (l : List Doings). l ++ record { own = v.pending; steps = []; inherited = [] } ∷ []) (unseen doings_of s.views id v (stays v) at refl))) (lists_made_snoc z s.homes (map doings_of s.views) v.pending r.lists_made);
         lists = lists_more z r.sized.cvs (get_or s.words 0 0) s.words s.homes s.views (omega (arith, r.sized.long)) r.flags r.roster r.lists id v at (stays v) w v.pending refl refl;
         heeds = each_more HeedsInArrival vs w (each_set HeedsInArrival s.views id (stays v) r.heeds (r.heeds id v at)) (λ settled. absurd (cc));
+        broadcasts = broadcast_more z record { words = s.words; homes = s.homes; views = vs } w refl (broadcast_set z s s.words id v (stays v) at refl refl r.broadcasts);
         left = subst LeftAreFree parties (each_more WasLeft (map party_of s.views) (newcomer c (Some n)) r.left (λ none. record { attached = refl; elections = refl }));
         barriers = subst (λ (y : List (PartyView C) × List ℕ). Barriers y.0 y.1) (λ i. (parties i, sym stay i)) (barriers_more (map party_of s.views) (phases_in z s) c (Some n) r.barriers);
         known = subst (λ (y : List ℕ × List (Attendance C)). PhasesAreKnown y.0 y.1) (λ i. (sym stay i, sym seen i)) (each_more (KnowsPhases (phases_in z s)) before (attendance_of w) r.known (λ b ph e. absurd (cc)));
@@ -243,6 +247,7 @@ module _ {C : Type 0} (means : Meanings C) (z : Size) (phase count : ℕ) where
             (lists_made_joined z s.homes (map doings_of s.views) id other (doings_of v) (doings_of w) apart (at_map doings_of s.views id v at) (at_map doings_of s.views other w there) r.lists_made);
         lists = lists_joined z r.sized.cvs (get_or s.words 0 0) s.words s.homes s.views (omega (arith, r.sized.long)) r.flags r.roster r.lists id v at other w x y apart there still free.0 refl refl;
         heeds = each_set HeedsInArrival vs other y (each_set HeedsInArrival s.views id x r.heeds (r.heeds id v at)) (λ settled. absurd (cc));
+        broadcasts = broadcast_spent z record { words = s.words; homes = s.homes; views = vs } other w y there' still refl (broadcast_set z s s.words id v x at refl refl r.broadcasts);
         left = subst LeftAreFree parties (each_set WasLeft (set (map party_of s.views) id (joined both (party_of v) (party_of w))) other (left_over c)
             (each_set WasLeft (map party_of s.views) id (joined both (party_of v) (party_of w)) r.left (λ none. absurd (has_number v.own p own none))) (λ none. record { attached = refl; elections = refl }));
         barriers = subst (λ (q : List (PartyView C) × List ℕ). Barriers q.0 q.1) (λ i. (parties i, sym stay i)) (barriers_joined (map party_of s.views) (phases_in z s) id other (party_of v) (party_of w) both c r.barriers (at_map party_of s.views id v at) (at_map party_of s.views other w there) apart);

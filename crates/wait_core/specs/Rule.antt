@@ -18,6 +18,7 @@ use Rattle.wait_core.specs.WordsAreMade.{WordsAreMade}
 use Rattle.wait_core.specs.ListsAreMade.{ListsAreMade}
 use Rattle.wait_core.specs.ListsStand.{ListsStand}
 use Rattle.wait_core.specs.ArrivalsHeed.{ArrivalsHeed}
+use Rattle.wait_core.specs.PassedPhaseIsBroadcast.{PassedPhaseIsBroadcast}
 use Rattle.wait_core.specs.LeftAreFree.{LeftAreFree}
 use Rattle.wait_core.specs.Barriers.{attendance_of, phases_in, CountsParticipants, CountsArrived, PhasesAreInside, PhasesAreKnown, WaitersAreQuiet, ElectionsAreRecorded, CallsSuit}
 
@@ -51,6 +52,7 @@ module _ {C : Type 0} (means : Meanings C) (z : Size) (phase count : ℕ) where
     pub lists_made : ListsAreMade z s.homes (map doings_of s.views)
     pub lists : ListsStand z s.words s.homes (map stance_of s.views)
     pub heeds : ArrivalsHeed s.views
+    pub broadcasts : PassedPhaseIsBroadcast z s
     pub left : LeftAreFree (map party_of s.views)
     pub barriers : Barriers (map party_of s.views) (phases_in z s)
     pub known : PhasesAreKnown (phases_in z s) (map attendance_of s.views)
