@@ -192,7 +192,7 @@ settled_either : (x : Bool) → cond x true true ≡ true
 settled_either true = refl
 settled_either false = refl
 
-settled_dozing : (p : Place) → dozes p ≡ true → is_settled p ≡ true
+pub settled_dozing : (p : Place) → dozes p ≡ true → is_settled p ≡ true
 settled_dozing [] is = is
 settled_dozing (Dozing d g ∷ p) is = refl
 settled_dozing (Taking j ∷ p) is = ap (cond (is_notice j) true) (settled_dozing p is) ∙ settled_either (is_notice j)

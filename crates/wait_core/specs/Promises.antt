@@ -11,12 +11,14 @@ use Rattle.wait_core.specs.declared.view.WaitView.{WaitView}
 use Rattle.wait_core.specs.Meanings.{Meanings}
 use Rattle.wait_core.specs.Words.{most_conditions, last_phase, set_at, shut_at, opened, opening_words, opening_phases}
 use Rattle.wait_core.specs.Machine.{WaitState}
-use Rattle.wait_core.specs.Parties.{newcomer}
+use Rattle.wait_core.specs.Parties.{newcomer, now}
 use Rattle.wait_core.specs.Seating.{fresh}
 use Rattle.wait_core.specs.Slots.{OpeningSlots}
 use Rattle.seat_roster.specs.Roster.{times}
 use Rattle.wait_core.specs.Runs.{Deed, Runs, Somewhere}
 use Rattle.wait_core.specs.Broadcasts.{listed_on, StandsBehind, AtFirstTake, TakesOff}
+use Rattle.wait_core.specs.Barriers.{waits_at, phases_in}
+use Rattle.wait_core.specs.PassedPhaseIsBroadcast.{IsBroadcastTo}
 use Rattle.wait_core.specs.Wakes.{IsAsleep, SleepsTillShutdown, LatchWakePending, ShutdownWakePending, SignalPending}
 
 module _ {C : Type 0} where
@@ -31,6 +33,10 @@ module _ {C : Type 0} where
   -- A backend with a target that is off its list was signalled. Where it hasn't reset its latch outside of a sleep since it was listed, it isn't asleep, unless a wake is pending, or who signalled it has still to set its latch
   abbrev pub NoSignalIsSleptThrough : WaitState C → Type 0
   NoSignalIsSleptThrough s = (id p c : ℕ) (v : WaitView C) → get_elem? s.views id ≡ maybe.some v → v.own ≡ Some p → v.target ≡ Some c → v.heeds ≡ true → listed_on p c s ≡ 0 → IsAsleep v → LatchWakePending p s ⊎ SignalPending p s
+
+  -- nobody who waits at a barrier from a phase that has passed is asleep, unless another who passed that phase is broadcasting and will reach it, a wake is pending, or who popped it has still to set its latch
+  abbrev pub NobodySleepsPastItsPhase : Size → WaitState C → Type 0
+  NobodySleepsPastItsPhase z s = (id p b ph : ℕ) (v : WaitView C) → get_elem? s.views id ≡ maybe.some v → v.own ≡ Some p → waits_at v.place ≡ Some (b, ph) → ph < now (phases_in z s) b → IsAsleep v → IsBroadcastTo p b ph s ⊎ (LatchWakePending p s ⊎ SignalPending p s)
 
   -- what stays of a seat that was joined into another
   pub record IsLeftOver (u : WaitView C) : Type 0 where
