@@ -59,21 +59,25 @@ module _ {C : Type 0} (z : Size) where
   Stand s t = (i : ℕ) (u : WaitView C) → get_elem? t.views i ≡ maybe.some u → (u.place ≡ [] → ⊥) → (v : WaitView C) × (get_elem? s.views i ≡ maybe.some v) × (v.own ≡ u.own) × (v.place ≡ u.place)
 
   carried_over : (s t : WaitState C) → Stand s t → Stand t s → ((f : List ℕ → ℕ) → f [] ≡ 0 → (c : ℕ) → amount_on f c t.homes (map stance_of t.views) ≡ amount_on f c s.homes (map stance_of s.views)) → phases_in z t ≡ phases_in z s → PassedPhaseIsBroadcast z s → PassedPhaseIsBroadcast z t
-  carried_over s t back forth lists phases part i p b ph u at own waits dozing late listed =
-      let before = back i u at (λ e. let none = ap dozes e in cc) in
-      let same = lists (times p) refl b in
-      let cover = part i p b ph before.0 before.1 (before.2 ∙ own) (ap waits_at before.3 ∙ waits) (ap dozes before.3 ∙ dozing) (subst (λ (l : List ℕ). ph < now l b) phases late) (omega arith) in
-      let after = forth cover.id cover.view cover.at (λ e. let none = ap passed_at e in let some = cover.passed in cc) in
-      record {
+  carried_over s t back forth lists phases part i p b ph u at own waits dozing late listed = by_before (back i u at (λ e. let none = ap dozes e in cc))
+    where
+      by_after : (cover : IsBroadcastTo p b ph s) → (w : WaitView C) × (get_elem? t.views cover.id ≡ maybe.some w) × (w.own ≡ cover.view.own) × (w.place ≡ cover.view.place) → IsBroadcastTo p b ph t
+      by_after cover (w, at_w, own_w, place) = record {
         id = cover.id;
         number = cover.number;
-        view = after.0;
-        at = after.1;
-        own = after.2 ∙ cover.own;
+        view = w;
+        at = at_w;
+        own = own_w ∙ cover.own;
         apart = cover.apart;
-        passed = ap passed_at after.3 ∙ cover.passed;
-        reaches = ⊎_elim (λ first. inl (ap has_freed after.3 ∙ first)) (λ behind. let order = lists (precedes p cover.number) refl b in inr (omega arith)) cover.reaches;
+        passed = ap passed_at place ∙ cover.passed;
+        reaches = ⊎_elim (λ first. inl (ap has_freed place ∙ first)) (λ behind. let order = lists (precedes p cover.number) refl b in inr (omega arith)) cover.reaches;
       }
+
+      by_cover : IsBroadcastTo p b ph s → IsBroadcastTo p b ph t
+      by_cover cover = by_after cover (forth cover.id cover.view cover.at (λ e. let none = ap passed_at e in let some = cover.passed in cc))
+
+      by_before : (v : WaitView C) × (get_elem? s.views i ≡ maybe.some v) × (v.own ≡ u.own) × (v.place ≡ u.place) → IsBroadcastTo p b ph t
+      by_before (v, at_v, own_v, place) = let same = lists (times p) refl b in by_cover (part i p b ph v at_v (own_v ∙ own) (ap waits_at place ∙ waits) (ap dozes place ∙ dozing) (subst (λ (l : List ℕ). ph < now l b) phases late) (omega arith))
 
   -- a seat's view changes in what this doesn't see
   pub broadcast_set : (s : WaitState C) (words : List ℕ) (id : ℕ) (v w : WaitView C) → get_elem? s.views id ≡ maybe.some v → w.own ≡ v.own → w.place ≡ v.place → PassedPhaseIsBroadcast z s → PassedPhaseIsBroadcast z record { words = words; homes = s.homes; views = set s.views id w }
@@ -287,50 +291,73 @@ module _ {C : Type 0} (means : Meanings C) (z : Size) (phase count : ℕ) (s : W
       -- a phase passes where it broadcasts then, or takes part alone
       passes : (b : ℕ) → b < z.bars → PhaseGoes b
 
-    finish : Owed → PassedPhaseIsBroadcast z state
-    finish owed i p b ph u e its waits dozing late listed = ⊎_elim (λ (x : (i ≡ id) × (next ≡ u)). by_own x.1) (λ (x : (i ≢ id) × (get_elem? s.views i ≡ maybe.some u)). by_seat x.0 x.1) (at_set s.views id i next u e)
-      where
-        by_own : next ≡ u → IsBroadcastTo p b ph state
-        by_own is =
-            let waits' : waits_at next.place ≡ waited b ph = ap (λ (y : WaitView C). waits_at y.place) is ∙ waits in let dozing' : dozes next.place ≡ true = ap (λ (y : WaitView C). dozes y.place) is ∙ dozing in
-            let mine : o ≡ p = let x = sym own ∙ (ap (λ (y : WaitView C). y.own) is ∙ its) in cc in
-            let was = owed.slept b ph waits' dozing' late (subst (λ (n : ℕ). 1 ≤ listed_on n b state) (sym mine) listed) in
-            let inside = bar_inside id v b ph at (is_attached id v b ph at was.0) in
-            let same : phase_is b ≡ phase_was b = ⊎_elim (λ same. same) (λ other. absurd (⊎_elim (λ (t : (passed_at next.place ≡ waited b (phase_was b)) × (has_freed next.place ≡ false) × (dozes next.place ≡ false)). let none = t.2 in cc) (λ t. let none = t.2 in cc) other)) (owed.passes b inside) in
-            let here = now_is b inside in let there = now_was b inside in
-            let cover = r.broadcasts id o b ph v at own was.0 was.1 (omega arith) was.2 in
-            subst (λ (n : ℕ). IsBroadcastTo n b ph state) mine (by_other o b ph (subst (λ (n : ℕ). 1 ≤ listed_on n b state) (sym mine) listed) cover
-            (λ same. cover.apart (let is : v ≡ cover.view = maybe.some-injective v cover.view (sym at ∙ (ap (get_elem? s.views) (sym same) ∙ cover.at)) in let x = sym cover.own ∙ (ap (λ (y : WaitView C). y.own) (sym is) ∙ own) in cc)))
+    -- who sleeps in an arrival passed no phase
+    passes_none : (b : ℕ) → dozes next.place ≡ true → PhaseGoes b → phase_is b ≡ phase_was b
+    passes_none b dozing (inl same) = same
+    passes_none b dozing (inr (inl t)) = absurd (let none = t.2 in cc)
+    passes_none b dozing (inr (inr t)) = absurd (let none = t.2 in cc)
 
-        by_seat : i ≢ id → get_elem? s.views i ≡ maybe.some u → IsBroadcastTo p b ph state
-        by_seat ne at_u =
-            let attached = is_attached i u b ph at_u waits in let inside = bar_inside i u b ph at_u attached in
-            let others : p ≢ o = other_number i u p ne at_u its in let here = now_is b inside in let there = now_was b inside in
-            ⊎_elim (λ (on : now (phases_in z s) b ≡ ph). ⊎_elim (λ (same : phase_is b ≡ phase_was b). absurd (omega arith))
-              (⊎_elim (λ (t : (passed_at next.place ≡ waited b (phase_was b)) × (has_freed next.place ≡ false) × (dozes next.place ≡ false)). record {
-                id = id;
-                number = o;
-                view = next;
-                at = set_there s.views id v next at;
-                own = own;
-                apart = λ same. others (sym same);
-                passed = t.0 ∙ ap (waited b) (sym there ∙ on);
-                reaches = inl t.1;
-              }) (λ (t : (field_of (λ r. r.participants) b s.homes attends ≡ 1) × ((g : ℕ) × (phase_of v.attached b ≡ Some g)) × (dozes next.place ≡ false)).
-              let two = total_two (takes_part b) attends id i (attendance_of v) (attendance_of u) ne attending (at_map attendance_of s.views i u at_u) in let one : takes_part b (attendance_of v) ≡ 1 = ap one_if t.1.1 in
-              let other : takes_part b (attendance_of u) ≡ 1 = ap one_if attached in let counted = r.participants b inside in let only = t.0 in absurd (omega arith)))
-              (owed.passes b inside))
-            (λ (past : now (phases_in z s) b ≡ suc ph).
-              let listed_before : 1 ≤ listed_on p b s = ⊎_elim (λ was. was) (λ (t : (found : List ℕ) × (v.own ≡ Some p) × (hand_at v.place ≡ in_hand b found) × (times p found ≡ 0)). absurd (others (let x = sym t.1 ∙ own in cc))) (before p b listed) in
-              let cover = r.broadcasts i p b ph u at_u its waits dozing (omega arith) listed_before in
-              dite (ℕ_discrete cover.id id)
-              (λ (same : cover.id ≡ id).
-                let is : v ≡ cover.view = maybe.some-injective v cover.view (sym at ∙ (ap (get_elem? s.views) (sym same) ∙ cover.at)) in let number : cover.number ≡ o = let x = sym cover.own ∙ (ap (λ (y : WaitView C). y.own) (sym is) ∙ own) in cc in
-                let goes = owed.broadcasts p b ph (λ same. others (sym same)) inside listed_before listed (ap (λ (y : WaitView C). passed_at y.place) is ∙ cover.passed)
-                    (⊎_elim (λ first. inl (ap (λ (y : WaitView C). has_freed y.place) is ∙ first)) (λ behind. inr (subst (λ (n : ℕ). StandsBehind n p b s) number behind)) cover.reaches) in
-                record { id = id; number = o; view = next; at = set_there s.views id v next at; own = own; apart = λ same. others (sym same); passed = goes.0; reaches = goes.1 })
-              (λ (apart : cover.id ≢ id). by_other p b ph listed cover apart))
-            (phase_near i u b ph at_u waits)
+    -- where the broadcast is that of the seat itself
+    is_mine : (p b ph : ℕ) (cover : IsBroadcastTo p b ph s) → cover.id ≡ id → (cover.view ≡ v) × (cover.number ≡ o)
+    is_mine p b ph cover same = by_view (maybe.some-injective cover.view v (sym cover.at ∙ (ap (get_elem? s.views) same ∙ at)))
+      where
+        by_view : cover.view ≡ v → (cover.view ≡ v) × (cover.number ≡ o)
+        by_view is = (is, let e : Some cover.number ≡ Some o = sym cover.own ∙ (ap (λ (y : WaitView C). y.own) is ∙ own) in cc)
+
+    module _ (owed : Owed) where
+      -- the seat sleeps in its arrival
+      for_own : (b ph : ℕ) → waits_at next.place ≡ waited b ph → dozes next.place ≡ true → ph < now (phases_in z state) b → 1 ≤ listed_on o b state → IsBroadcastTo o b ph state
+      for_own b ph waits dozing late listed = by_before (owed.slept b ph waits dozing late listed)
+        where
+          by_before : (waits_at v.place ≡ waited b ph) × (dozes v.place ≡ true) × (1 ≤ listed_on o b s) → IsBroadcastTo o b ph state
+          by_before (waited_there, slept_there, was) =
+              let inside = bar_inside id v b ph at (is_attached id v b ph at waited_there) in
+              let same = passes_none b dozing (owed.passes b inside) in let then = now_is b inside in let first = now_was b inside in
+              let cover = r.broadcasts id o b ph v at own waited_there slept_there (omega arith) was in
+              by_other o b ph listed cover (λ mine. cover.apart (is_mine o b ph cover mine).1)
+
+      -- another does
+      module _ (i p b ph : ℕ) (u : WaitView C) (ne : i ≢ id) (at_u : get_elem? s.views i ≡ maybe.some u) (its : u.own ≡ Some p) (waits : waits_at u.place ≡ waited b ph) (dozing : dozes u.place ≡ true) (late : ph < now (phases_in z state) b) (listed : 1 ≤ listed_on p b state) where
+        others : p ≢ o
+        others = other_number i u p ne at_u its
+
+        inside : b < z.bars
+        inside = bar_inside i u b ph at_u (is_attached i u b ph at_u waits)
+
+        by_seat : (passed_at next.place ≡ waited b ph) × ((has_freed next.place ≡ false) ⊎ StandsBehind o p b state) → IsBroadcastTo p b ph state
+        by_seat goes = record { id = id; number = o; view = next; at = set_there s.views id v next at; own = own; apart = λ same. others (sym same); passed = goes.0; reaches = goes.1 }
+
+        -- the phase passes in this step
+        for_next : now (phases_in z s) b ≡ ph → PhaseGoes b → IsBroadcastTo p b ph state
+        for_next on (inl same) = let then = now_is b inside in let first = now_was b inside in absurd (omega arith)
+        for_next on (inr (inl t)) = by_seat (t.0 ∙ ap (waited b) (sym (now_was b inside) ∙ on), inl t.1)
+        for_next on (inr (inr t)) =
+            let two = total_two (takes_part b) attends id i (attendance_of v) (attendance_of u) ne attending (at_map attendance_of s.views i u at_u) in let one : takes_part b (attendance_of v) ≡ 1 = ap one_if t.1.1 in
+            let other : takes_part b (attendance_of u) ≡ 1 = ap one_if (is_attached i u b ph at_u waits) in let counted = r.participants b inside in let only = t.0 in absurd (omega arith)
+
+        was_there : WasListed z s.words s.homes seats many flags r.lists.hands id (stance_of v) there state.homes (word_of z o k) (becomes k word) (stance_of next) p b → 1 ≤ listed_on p b s
+        was_there (inl was) = was
+        was_there (inr t) = absurd (others (let e : Some p ≡ Some o = sym t.1 ∙ own in cc))
+
+        -- it had passed before
+        for_past : 1 ≤ listed_on p b s → IsBroadcastTo p b ph s → IsBroadcastTo p b ph state
+        for_past was cover = dite (ℕ_discrete cover.id id) (λ (mine : cover.id ≡ id). by_mine (is_mine p b ph cover mine)) (λ (apart : cover.id ≢ id). by_other p b ph listed cover apart)
+          where
+            by_mine : (cover.view ≡ v) × (cover.number ≡ o) → IsBroadcastTo p b ph state
+            by_mine (is, number) = by_seat (owed.broadcasts p b ph (λ same. others (sym same)) inside was listed (ap (λ (y : WaitView C). passed_at y.place) (sym is) ∙ cover.passed)
+                (⊎_elim (λ first. inl (ap (λ (y : WaitView C). has_freed y.place) (sym is) ∙ first)) (λ behind. inr (subst (λ (n : ℕ). StandsBehind n p b s) number behind)) cover.reaches))
+
+        for_other : IsBroadcastTo p b ph state
+        for_other = ⊎_elim (λ (on : now (phases_in z s) b ≡ ph). for_next on (owed.passes b inside))
+            (λ (past : now (phases_in z s) b ≡ suc ph). let was = was_there (before p b listed) in for_past was (r.broadcasts i p b ph u at_u its waits dozing (omega arith) was)) (phase_near i u b ph at_u waits)
+
+      finish : PassedPhaseIsBroadcast z state
+      finish i p b ph u e its waits dozing late listed = ⊎_elim
+          (λ (x : (i ≡ id) × (next ≡ u)). by_own x.1 (let e : Some o ≡ Some p = sym own ∙ (ap (λ (y : WaitView C). y.own) x.1 ∙ its) in cc))
+          (λ (x : (i ≢ id) × (get_elem? s.views i ≡ maybe.some u)). for_other i p b ph u x.0 x.1 its waits dozing late listed) (at_set s.views id i next u e)
+        where
+          by_own : next ≡ u → o ≡ p → IsBroadcastTo p b ph state
+          by_own is mine = subst (λ (n : ℕ). IsBroadcastTo n b ph state) mine (for_own b ph (ap (λ (y : WaitView C). waits_at y.place) is ∙ waits) (ap (λ (y : WaitView C). dozes y.place) is ∙ dozing) late (subst (λ (n : ℕ). 1 ≤ listed_on n b state) (sym mine) listed))
 
   -- A STEP THAT FREES NOTHING
   module _ (k : WaitStep) (ok : Permits z k (Some o) v.target v.place) (small : get_or s.words (word_of z o k) 0 ≤ 1) (none : IsNoFree k) where
@@ -465,7 +492,7 @@ module _ {C : Type 0} (means : Meanings C) (z : Size) (phase count : ℕ) (s : W
         let inside = bar_inside id v b ph at (is_attached id v b ph at here) in
         let spot : slot ≡ slot_of (Bar b) = ap (λ (x : Job). slot_of (spot_of x)) is ∙ ap (λ (n : ℕ). slot_of (Bar n)) same.0 in
         let was = field_found (λ y. y.phase) refl b spot in let there = now_was step ok small b inside in let then = now_is step ok small b inside in
-        let stays : phase_is step ok small b ≡ phase_was b = ⊎_elim (λ same. same) (λ other. absurd (⊎_elim (λ (t : (passed_at goes_to.place ≡ waited b (phase_was b)) × (has_freed goes_to.place ≡ false) × (dozes goes_to.place ≡ false)). let none = t.2 in cc) (λ t. let none = t.2 in cc) other)) (phase_goes b inside) in
+        let same_phase = passes_none step ok small b dozing (phase_goes b inside) in
         let ne = eqb-false found.phase (g + 1) unpassed in let f = same.1 in
         ⊎_elim (λ (on : now (phases_in z s) b ≡ ph). omega arith) (λ (past : now (phases_in z s) b ≡ suc ph). ne (omega arith)) (phase_near id v b ph at here)
 

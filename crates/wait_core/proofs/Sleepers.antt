@@ -70,12 +70,12 @@ module _ {C : Type 0} (means : Meanings C) (z : Size) (phase count : ℕ) (s : W
       dite (ℕ_discrete (get_or s.words (set_at p) 0) 1) (λ up. inl (asleep_wakes asleep up)) (λ clear. inr (let flag = r.flags (set_at p) (omega (arith, below)) (omega (arith, below)) in omega arith))
 
   -- who waits at a barrier for a phase that has passed is listed before a broadcast, or was signalled
-  pub late_wakes : (b ph : ℕ) → waits_at v.place ≡ waited b ph → ph < now (phases_in z s) b → IsAsleep v → IsBroadcastTo p b ph s ⊎ (LatchWakePending p s ⊎ SignalPending p s)
+  pub late_wakes : (b ph : ℕ) → waits_at v.place ≡ waited b ph → ph < now (phases_in z s) b → IsAsleep v → ((1 ≤ listed_on p b s) × IsBroadcastTo p b ph s) ⊎ (LatchWakePending p s ⊎ SignalPending p s)
   late_wakes b ph waits late asleep =
       let in_sleep = sleeps_dozing z.cvs v.target b ph v.place (r.places.fits id (standing_of v) (at_map standing_of s.views id v at)) asleep waits in
       dite (ℕ_discrete (listed_on p b s) 0)
       (λ off. inr (signalled_wakes b in_sleep.1 (r.heeds id v at (settled_dozing v.place in_sleep.0)) off asleep))
-      (λ on. inl (r.broadcasts id p b ph v at own waits in_sleep.0 late (omega arith)))
+      (λ on. let some : 1 ≤ listed_on p b s = omega arith in inl (some, r.broadcasts id p b ph v at own waits in_sleep.0 late some))
 
   pub stopped_wakes : SleepsTillShutdown v → get_or s.words (shut_at z) 0 ≡ 1 → ShutdownWakePending p s
   stopped_wakes asleep up = r.shutdown p below (let a = counted past_shutdown in let b : bit (past_shutdown (top v.place)) ≡ 1 = ap (λ t. bit (past_shutdown t)) asleep in omega arith) up

@@ -34,9 +34,9 @@ module _ {C : Type 0} where
   abbrev pub NoSignalIsSleptThrough : WaitState C → Type 0
   NoSignalIsSleptThrough s = (id p c : ℕ) (v : WaitView C) → get_elem? s.views id ≡ maybe.some v → v.own ≡ Some p → v.target ≡ Some c → v.heeds ≡ true → listed_on p c s ≡ 0 → IsAsleep v → LatchWakePending p s ⊎ SignalPending p s
 
-  -- nobody who waits at a barrier from a phase that has passed is asleep, unless another who passed that phase is broadcasting and will reach it, a wake is pending, or who popped it has still to set its latch
+  -- nobody who waits at a barrier from a phase that has passed is asleep, unless it is listed and another who passed that phase is broadcasting to it, a wake is pending, or who popped it has still to set its latch
   abbrev pub NobodySleepsPastItsPhase : Size → WaitState C → Type 0
-  NobodySleepsPastItsPhase z s = (id p b ph : ℕ) (v : WaitView C) → get_elem? s.views id ≡ maybe.some v → v.own ≡ Some p → waits_at v.place ≡ Some (b, ph) → ph < now (phases_in z s) b → IsAsleep v → IsBroadcastTo p b ph s ⊎ (LatchWakePending p s ⊎ SignalPending p s)
+  NobodySleepsPastItsPhase z s = (id p b ph : ℕ) (v : WaitView C) → get_elem? s.views id ≡ maybe.some v → v.own ≡ Some p → waits_at v.place ≡ Some (b, ph) → ph < now (phases_in z s) b → IsAsleep v → ((1 ≤ listed_on p b s) × IsBroadcastTo p b ph s) ⊎ (LatchWakePending p s ⊎ SignalPending p s)
 
   -- what stays of a seat that was joined into another
   pub record IsLeftOver (u : WaitView C) : Type 0 where
