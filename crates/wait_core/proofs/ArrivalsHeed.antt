@@ -1,5 +1,5 @@
 -- Each step keeps that who waits at a barrier heeds its signal.
-use Rattle.std.proofs.Common.{◌≡◌, ◌⊎◌, ℕ, Bool, true, false, List, [], ◌∷◌, Option, None, Some, refl, sym, ap, ◌∙◌, ⊎_elim}
+use Rattle.std.proofs.Common.{◌≡◌, ℕ, Bool, true, ◌∷◌, Option, Some, sym, ap, ◌∙◌, ⊎_elim}
 use Rattle.wait_core.specs.declared.step.Spot.{Spot}
 use Rattle.wait_core.specs.declared.step.Call.TheVariants as call
 use Rattle.wait_core.specs.declared.step.WaitStep.{WaitStep}
@@ -11,7 +11,6 @@ use Rattle.wait_core.specs.Machine.{Place, top, freed, freed_heeds as freed_heed
 use Rattle.wait_core.specs.Fits.{Fits}
 use Rattle.wait_core.specs.ArrivalsHeed.{is_settled}
 use Rattle.wait_core.proofs.Effects.{alone_idle}
-use Rattle.wait_core.proofs.Hands.{IsNoFree}
 use Rattle.wait_core.proofs.Dozing.{Course, course, Ends, GoesOn, course_follows, freed_heeds}
 
 -- a step that frees nothing, and is no reset by the seat itself

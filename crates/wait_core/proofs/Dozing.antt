@@ -1,6 +1,5 @@
 -- Arrivals in their sleep, and broadcasts of a phase that passed: what each step makes of their places.
-use Rattle.std.proofs.Common.{◌≡◌, ◌⊎◌, ℕ, ◌+◌, ◌-◌, ◌≤◌, eqb, Bool, true, false, cond, List, [], ◌∷◌, Option, None, Some, refl, sym, ap, ◌∙◌, subst, inl, inr, arith, eqb-true}
-use Rattle.std.proofs.lemmas.Bool.{eqb-false}
+use Rattle.std.proofs.Common.{◌≡◌, ◌⊎◌, ℕ, ◌+◌, ◌-◌, eqb, Bool, true, false, cond, List, [], ◌∷◌, Option, None, Some, refl, sym, ap, ◌∙◌, subst, inl, inr, eqb-true}
 use Rattle.wait_core.specs.declared.step.Until.{Until}
 use Rattle.wait_core.specs.declared.step.Until.TheVariants.{Latch, LatchOrShutdown}
 use Rattle.wait_core.specs.declared.step.Spot.{Spot}
@@ -16,15 +15,13 @@ use Rattle.wait_core.specs.declared.view.Job.TheVariants as job
 use Rattle.wait_core.specs.declared.view.Kept.{Kept}
 use Rattle.wait_core.specs.declared.view.Record.{Record}
 use Rattle.wait_core.specs.declared.view.Size.{Size}
-use Rattle.seat_roster.specs.Roster.{times}
-use Rattle.wait_core.specs.Lists.{is_listed, is_empty}
+use Rattle.wait_core.specs.Lists.{is_listed}
 use Rattle.wait_core.specs.Jobs.{spot_of, is_worn, is_last, is_only, is_awaited, has_passed, departed, left_record, heeds_after, resumed, passes_on, rouses, rouses_on, goes_on}
 use Rattle.wait_core.specs.Machine.{Place, top, outer, begun, reloaded, marked, woken, looked, drained, reset, entered, taken, spun, place_then, MayBegin, MayReload, MayMark, MayWake, MayLook, MayDrain, MayReset, MayTake, MaySpin, takes_first, Permits}
 use Rattle.wait_core.specs.Fits.{BehindPrepare, BehindSleep, BehindBroadcast, BehindSet, BehindWait, BehindCancel, JobFits, Fits}
 use Rattle.wait_core.specs.Stances.{sentinel_at}
-use Rattle.wait_core.specs.Barriers.{waits_at, asked}
 use Rattle.wait_core.specs.ArrivalsHeed.{is_notice, is_settled}
-use Rattle.wait_core.specs.PassedPhaseIsBroadcast.{dozes, passed_at, goes_further, has_freed}
+use Rattle.wait_core.specs.PassedPhaseIsBroadcast.{dozes, passed_at, has_freed}
 use Rattle.wait_core.proofs.Attachments.{waited, same_waited}
 use Rattle.wait_core.proofs.Effects.{alone_idle, at_top}
 use Rattle.wait_core.proofs.Hands.{IsNoFree}
@@ -292,7 +289,7 @@ module _ (cvs : ℕ) (t : Option ℕ) (own : ℕ) (list : List ℕ) (found : Rec
   freed_heeds j p fit h heeds settled = heeds_apart j p tt fit h heeds settled
 
   -- who sleeps in an arrival then slept there before, and is on the list; or it found that its phase hasn't passed
-  abbrev pub StillDozes : Job → Place → Type 0
+  abbrev StillDozes : Job → Place → Type 0
   StillDozes j p = ((dozes p ≡ true) × (is_listed own list ≡ true) × ((c : ℕ) × (j ≡ job.Resleep c))) ⊎ ((d : ℕ) × (g : ℕ) × (j ≡ job.Notice d g) × (has_passed g found ≡ false))
 
   resleep_dozes : (c : ℕ) (p : Place) → BehindSleep c p → dozes (goes_on (job.Resleep c) own list found p) ≡ true → StillDozes (job.Resleep c) p
@@ -329,7 +326,7 @@ module _ (cvs : ℕ) (t : Option ℕ) (own : ℕ) (list : List ℕ) (found : Rec
   freed_dozes j p fit is = dozes_apart j p tt fit is
 
   -- A PASSER leaves its target's list first; then it has the list of its broadcast in hand
-  abbrev pub PassesOn : Job → Place → ℕ → ℕ → Type 0
+  abbrev PassesOn : Job → Place → ℕ → ℕ → Type 0
   PassesOn j p b ph = ((passed_at (goes_on j own list found p) ≡ Some (b, ph)) × (has_freed (goes_on j own list found p) ≡ false)) ⊎ ((p ≡ Passing b ph ∷ []) × (t ≡ None) × ((j ≡ job.Broadcast b) ⊎ (j ≡ job.Rebroadcast b)))
 
   module _ (b ph : ℕ) where
@@ -386,7 +383,7 @@ module _ (cvs : ℕ) (t : Option ℕ) (own : ℕ) (list : List ℕ) (found : Rec
         by_test false e = refl
 
   -- A PHASE PASSES by the free of one who broadcasts then, or who is the only one that takes part
-  abbrev pub Passes : Job → Place → ℕ → Type 0
+  abbrev Passes : Job → Place → ℕ → Type 0
   Passes j p b = ((left_record j found).phase ≡ found.phase)
       ⊎ (((passed_at (goes_on j own list found p) ≡ Some (b, found.phase)) × (has_freed (goes_on j own list found p) ≡ false) × (dozes (goes_on j own list found p) ≡ false))
       ⊎ ((found.participants ≡ 1) × (j ≡ job.ExceptLast b) × (dozes (goes_on j own list found p) ≡ false)))

@@ -4,7 +4,7 @@ use Rattle.std.proofs.lemmas.Bool.{eqb-false}
 use mathlib.Core.List.{map-append}
 use mathlib.Core.Logic.{dite}
 use mathlib.Core.Option as maybe
-use native.Mathlib.Decide.{ℕ_discrete, dec_lt}
+use native.Mathlib.Decide.{ℕ_discrete}
 use lib.ListN.{get_elem?}
 use lib.Seq.{map-set}
 use Rattle.atomic_table.specs.Table.{homes_after, keeps, takes, stepped}
@@ -24,34 +24,33 @@ use Rattle.seat_roster.specs.Totals.{total}
 use Rattle.seat_roster.specs.Roster.{times, one_if}
 use Rattle.seat_roster.proofs.Numbers.{one_seat}
 use Rattle.seat_roster.proofs.Totals.{total_at, total_two, total_some, total_snoc, set_there}
-use Rattle.wait_core.specs.Words.{most_conditions, slot_of, spin_at, client_base, slots_in}
+use Rattle.wait_core.specs.Words.{most_conditions, slot_of, client_base, slots_in}
 use Rattle.wait_core.specs.Lists.{is_listed, precedes}
 use Rattle.wait_core.specs.Jobs.{spot_of, has_passed, left_list, left_record, rouses, rouses_on, goes_on}
-use Rattle.wait_core.specs.Machine.{WaitState, Place, top, number_of, word_of, becomes, entered, taken, left_at, freed, home_in, slot_number, act_of, carried, home_of, next_with, IsSpot, MayTake, MayFree, Permits}
+use Rattle.wait_core.specs.Machine.{WaitState, Place, top, number_of, word_of, becomes, taken, left_at, freed, home_in, slot_number, act_of, carried, home_of, next_with, IsSpot, MayTake, Permits}
 use Rattle.wait_core.specs.Meanings.{Meanings}
 use Rattle.wait_core.specs.Parties.{phase_of, now}
 use Rattle.wait_core.specs.Seating.{numbers_of, standing_of, party_of}
 use Rattle.wait_core.specs.Fits.{JobFits, Fits}
-use Rattle.wait_core.specs.Stances.{Hand, Stance, Homes, stance_of, hand_at, slot_in, is_just, hand_amount, amount_by, home_amount, amount_on, times_on, order_on, belongs_to, sentinel_at, pops_at, target_or}
-use Rattle.wait_core.specs.TargetsAreListed.{TargetsAreListed}
+use Rattle.wait_core.specs.Stances.{Hand, Stance, Homes, stance_of, hand_at, slot_in, is_just, hand_amount, amount_by, home_amount, amount_on, times_on, order_on, sentinel_at, pops_at, target_or}
 use Rattle.wait_core.specs.Barriers.{Attendance, attendance_of, waits_at, asked, asks_at, JobSuits, held_field, field_of, phase_in, phases, phases_in, takes_part}
 use Rattle.wait_core.specs.Broadcasts.{listed_on, StandsBehind}
 use Rattle.wait_core.specs.PassedPhaseIsBroadcast.{dozes, passed_at, goes_further, has_freed, IsBroadcastTo, PassedPhaseIsBroadcast}
 use Rattle.wait_core.specs.Rule.{Rule}
 use Rattle.wait_core.proofs.Effects.{spot_inside}
-use Rattle.wait_core.proofs.Lists.{listed_there, stands_there, stands_behind}
+use Rattle.wait_core.proofs.Lists.{listed_there, stands_behind}
 use Rattle.wait_core.proofs.Turns.{in_hand, Turn, stays, reaches, resets, takes as takes_list, frees}
 use Rattle.wait_core.proofs.Turning.{enters, view_turns}
-use Rattle.wait_core.proofs.Owning.{amount_same, amount_out, amount_sent, amount_apart, amount_held, Alone, alone_stances, own_counts, counts_most, both_none}
+use Rattle.wait_core.proofs.Owning.{amount_same, amount_out, amount_sent, amount_apart, amount_held, Alone, alone_stances, own_counts, counts_most}
 use Rattle.wait_core.proofs.SpinInOneHand.{Hands, SpinsAreFlags, one_hand, home_out, sends_hand}
 use Rattle.wait_core.proofs.TargetsAreListed.{sends_listed}
-use Rattle.wait_core.proofs.Sentinel.{Goes, broadcast_goes, rebroadcast_goes, LeavesList, order_turn}
+use Rattle.wait_core.proofs.Sentinel.{Goes, broadcast_goes, rebroadcast_goes, order_turn}
 use Rattle.wait_core.proofs.Hands.{hand_follows, taking_free, IsNoFree, waits_stay, IsOfList, list_waits}
 use Rattle.wait_core.proofs.Attachments.{waited, same_waited}
 use Rattle.wait_core.proofs.Records.{ReadsNothing, slot_held, opened_at, opened_same, held_none, field_same, field_out, field_sent, field_apart, field_held}
 use Rattle.wait_core.proofs.ListsKept.{lists_found}
 use Rattle.wait_core.proofs.Arriving.{wide, spins, few_held, phase_seen, phases_long, apart_free}
-use Rattle.wait_core.proofs.Dozing.{Course, course, Ends, GoesOn, course_follows, freed_dozes, PassesOn, passer_frees, rouses_passed, rouses_on_passed, Passes, phase_passes}
+use Rattle.wait_core.proofs.Dozing.{Course, course, Ends, GoesOn, course_follows, freed_dozes, passer_frees, rouses_passed, rouses_on_passed, phase_passes}
 
 -- MOVES. Seats in calls stand as they did, and lists and phases read the same
 module _ {C : Type 0} (z : Size) where
@@ -112,13 +111,13 @@ module _ {C : Type 0} (z : Size) where
 
 -- TURNS. Who is listed after one was so before it, or is the one who frees the list, and wasn't on it
 module _ (z : Size) (words : List ℕ) (homes : Homes) (seats : List Stance) (wide : client_base z ≤ length words) (flags : SpinsAreFlags z words) (hands : Hands z words homes seats) (id : ℕ) (v : Stance) (at : get_elem? seats id ≡ maybe.some v) (after : Homes) (i x : ℕ) (w : Stance) (p c : ℕ) where
-  abbrev pub WasListed : Type 0
+  abbrev WasListed : Type 0
   WasListed = (1 ≤ times_on p c homes seats) ⊎ ((found : List ℕ) × (v.own ≡ Some p) × (v.hand ≡ in_hand c found) × (times p found ≡ 0))
 
   unmoved : after ≡ homes → w.hand ≡ v.hand → 1 ≤ times_on p c after (set seats id w) → WasListed
   unmoved stay hand there = let now = subst (λ (h : Homes). 1 ≤ times_on p c h (set seats id w)) stay there in let same = amount_same homes seats id v w at (times p) refl c hand in inl (omega arith)
 
-  pub was_listed : Turn z words homes after i x v w → 1 ≤ times_on p c after (set seats id w) → WasListed
+  was_listed : Turn z words homes after i x v w → 1 ≤ times_on p c after (set seats id w) → WasListed
   was_listed (stays still stay is) there = unmoved stay (ap (λ (u : Stance). u.hand) is) there
   was_listed (reaches r few at_r to stay popped is) there = unmoved stay (ap (λ (u : Stance). u.hand) is) there
   was_listed (resets r few own at_r to stay is) there = unmoved stay (ap (λ (u : Stance). u.hand) is) there
@@ -128,15 +127,15 @@ module _ (z : Size) (words : List ℕ) (homes : Homes) (seats : List Stance) (wi
       let now = subst (λ (h : Homes). 1 ≤ times_on p c h (set seats id w)) goes there in let free = sends_hand o d found k.list.items v w sends in
       dite (ℕ_discrete c d)
       (λ (same : c ≡ d).
-        let out = home_out z words homes seats wide flags hands id d v found at inside has in
-        let held = amount_held (times p) refl homes seats id d v found at (one_hand z words homes seats wide flags hands d inside) out has in
-        let sent = amount_sent homes seats id v w at (times p) refl c d found k out has free same in
-        let here : times_on p c homes seats ≡ times_on p d homes seats = ap (λ (n : ℕ). times_on p n homes seats) same in
-        dite (ℕ_discrete (times p found) 0)
-        (λ (none : times p found ≡ 0). dite (ℕ_discrete o p)
-        (λ (mine : o ≡ p). inr (found, own ∙ ap Some mine, subst (λ (n : ℕ). v.hand ≡ in_hand n found) (sym same) has, none))
-        (λ (ne : o ≢ p). let less = (sends_listed o d found k.list.items v w sends).others p ne in absurd (omega arith)))
-        (λ some. inl (omega arith)))
+      let out = home_out z words homes seats wide flags hands id d v found at inside has in
+      let held = amount_held (times p) refl homes seats id d v found at (one_hand z words homes seats wide flags hands d inside) out has in
+      let sent = amount_sent homes seats id v w at (times p) refl c d found k out has free same in
+      let here : times_on p c homes seats ≡ times_on p d homes seats = ap (λ (n : ℕ). times_on p n homes seats) same in
+      dite (ℕ_discrete (times p found) 0)
+      (λ (none : times p found ≡ 0). dite (ℕ_discrete o p)
+      (λ (mine : o ≡ p). inr (found, own ∙ ap Some mine, subst (λ (n : ℕ). v.hand ≡ in_hand n found) (sym same) has, none))
+      (λ (ne : o ≢ p). let less = (sends_listed o d found k.list.items v w sends).others p ne in absurd (omega arith)))
+      (λ some. inl (omega arith)))
       (λ (ne : c ≢ d). let same = amount_apart homes seats id v w at (times p) refl c d found (maybe.some k) has free ne in inl (omega arith))
 
 -- LISTS. Whoever stands behind another is on the list
@@ -474,13 +473,13 @@ module _ {C : Type 0} (means : Meanings C) (z : Size) (phase count : ℕ) (s : W
     phase_goes : (b : ℕ) → b < z.bars → PhaseGoes step ok small b
     phase_goes b inside = dite (ℕ_discrete slot (slot_of (Bar b)))
         (λ (is : slot ≡ slot_of (Bar b)).
-          let was = field_found (λ y. y.phase) refl b is in let now = phase_left b is in
-          ⊎_elim (λ (same : (left_record j found).phase ≡ found.phase). inl (omega arith))
-          (⊎_elim (λ (t : (passed_at (goes_on j o list found q) ≡ waited b found.phase) × (has_freed (goes_on j o list found q) ≡ false) × (dozes (goes_on j o list found q) ≡ false)).
-            inr (inl (ap passed_at place_is ∙ (t.0 ∙ ap (waited b) (sym was)), ap has_freed place_is ∙ t.1, ap dozes place_is ∙ t.2)))
-          (λ (t : (found.participants ≡ 1) × (j ≡ job.ExceptLast b) × (dozes (goes_on j o list found q) ≡ false)).
-            inr (inr (field_found (λ y. y.participants) refl b is ∙ t.0, except_last b t.1, ap dozes place_is ∙ t.2))))
-          (phase_passes z.cvs v.target o list found j q b job_fits (bar_slot z (spot_of j) b r.sized.cvs ok.0 is)))
+        let was = field_found (λ y. y.phase) refl b is in let now = phase_left b is in
+        ⊎_elim (λ (same : (left_record j found).phase ≡ found.phase). inl (omega arith))
+        (⊎_elim (λ (t : (passed_at (goes_on j o list found q) ≡ waited b found.phase) × (has_freed (goes_on j o list found q) ≡ false) × (dozes (goes_on j o list found q) ≡ false)).
+        inr (inl (ap passed_at place_is ∙ (t.0 ∙ ap (waited b) (sym was)), ap has_freed place_is ∙ t.1, ap dozes place_is ∙ t.2)))
+        (λ (t : (found.participants ≡ 1) × (j ≡ job.ExceptLast b) × (dozes (goes_on j o list found q) ≡ false)).
+        inr (inr (field_found (λ y. y.participants) refl b is ∙ t.0, except_last b t.1, ap dozes place_is ∙ t.2))))
+        (phase_passes z.cvs v.target o list found j q b job_fits (bar_slot z (spot_of j) b r.sized.cvs ok.0 is)))
         (λ (ne : slot ≢ slot_of (Bar b)). inl (phase_apart b ne))
 
     -- WHO SLEEPS
@@ -502,7 +501,7 @@ module _ {C : Type 0} (means : Meanings C) (z : Size) (phase count : ℕ) (s : W
           ap waits_at place ∙ (sym (list_waits j o list found q (subst IsOfList (sym t.2.1) tt)) ∙ (sym (ap waits_at place_is) ∙ waits)),
           ap dozes place ∙ t.0,
           ⊎_elim (λ was. was) (λ (x : (found : List ℕ) × (v.own ≡ Some o) × (hand_at v.place ≡ in_hand b found) × (times o found ≡ 0)).
-            let same : x.0 ≡ list = ap list_in (sym x.2 ∙ has) in let some = listed_there o list t.1 in let count = ap (times o) same in let none = x.3 in absurd (omega arith)) (before step ok small o b listed),
+              let same : x.0 ≡ list = ap list_in (sym x.2 ∙ has) in let some = listed_there o list t.1 in let count = ap (times o) same in let none = x.3 in absurd (omega arith)) (before step ok small o b listed),
         ))
         (λ (t : (d : ℕ) × (g : ℕ) × (j ≡ job.Notice d g) × (has_passed g found ≡ false)). absurd (finds_passed t.0 t.1 b ph t.2 t.3 waits dozing late))
         (freed_dozes z.cvs v.target o list found j q job_fits (sym (ap dozes place_is) ∙ dozing))
@@ -556,8 +555,8 @@ module _ {C : Type 0} (means : Meanings C) (z : Size) (phase count : ℕ) (s : W
     broadcasts_on p b ph ne inside was listed passed reached = ⊎_elim
         (λ (t : (passed_at (goes_on j o list found q) ≡ waited b ph) × (has_freed (goes_on j o list found q) ≡ false)). (ap passed_at place_is ∙ t.0, inl (ap has_freed place_is ∙ t.1)))
         (λ (t : (q ≡ Passing b ph ∷ []) × (v.target ≡ None) × ((j ≡ job.Broadcast b) ⊎ (j ≡ job.Rebroadcast b))). ⊎_elim
-          (λ (is : j ≡ job.Broadcast b). first_free p b ph (λ same. ne (sym same)) is t.0 was listed)
-          (λ (is : j ≡ job.Rebroadcast b). later_free p b ph (λ same. ne (sym same)) is t.0 (⊎_elim (λ (first : has_freed v.place ≡ false). absurd (let freed = ap has_freed place ∙ ap goes_further is in cc)) (λ behind. behind) reached) listed) t.2)
+        (λ (is : j ≡ job.Broadcast b). first_free p b ph (λ same. ne (sym same)) is t.0 was listed)
+        (λ (is : j ≡ job.Rebroadcast b). later_free p b ph (λ same. ne (sym same)) is t.0 (⊎_elim (λ (first : has_freed v.place ≡ false). absurd (let freed = ap has_freed place ∙ ap goes_further is in cc)) (λ behind. behind) reached) listed) t.2)
         (passer_frees z.cvs v.target o list found b ph j q job_fits (sym (ap passed_at place) ∙ passed))
 
     frees_job : Owed step ok small
