@@ -21,6 +21,8 @@ pub mod Attachments
 pub mod BarriersKept
 pub mod Attending
 pub mod Passing
+pub mod Outcomes
+pub mod RecordsKept
 pub mod Arriving
 pub mod RecordsTold
 pub mod RuleKept
