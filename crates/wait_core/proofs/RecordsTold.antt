@@ -25,7 +25,8 @@ use Rattle.wait_core.specs.Told.{IsInside, FindsPhase, CountsSeat, TellsRecord, 
 use Rattle.wait_core.proofs.Records.{field_home}
 use Rattle.wait_core.proofs.Attending.{here_idle}
 use Rattle.wait_core.proofs.Passing.{waits_less}
-use Rattle.wait_core.proofs.Arriving.{few_views, phase_seen, held_once}
+use Rattle.wait_core.proofs.Arriving.{few_views, phase_seen}
+use Rattle.wait_core.proofs.RecordsKept.{held_once}
 
 part_most : {C : Type 0} (b : ℕ) (v : Attendance C) → takes_part b v ≤ 1
 part_most b v = by_known (phase_of v.party.attached b)
