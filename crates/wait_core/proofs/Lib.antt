@@ -24,6 +24,7 @@ pub mod Passing
 pub mod Outcomes
 pub mod RecordsKept
 pub mod Arriving
+pub mod Electing
 pub mod RecordsTold
 pub mod RuleKept
 pub mod Untouched

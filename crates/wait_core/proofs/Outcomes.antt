@@ -54,6 +54,24 @@ module _ (bars opening : ℕ) where
   abbrev OneHasNext : List Outcome → Outcome → Type 0
   OneHasNext seats v = (b ph : ℕ) → WaitedOut v.passed b ph → OneHas seats b (suc ph)
 
+  -- the records say what they said
+  pub says_same : (elected after : ℕ → ℕ) (seats : List Outcome) → OneElected bars opening elected seats → ((b : ℕ) → b < bars → after b ≡ elected b) → OneElected bars opening after seats
+  says_same elected after seats h says = record {
+    waits = h.waits;
+    waited = h.waited;
+    one = h.one;
+    last = λ b below since. let is = says b below in subst (OneHas seats b) (sym is) (h.last b below (omega arith));
+  }
+
+  -- no seat is there, and no record says that anybody was elected
+  pub one_of_none : OneElected bars opening (λ b. opening) []
+  one_of_none = record {
+    waits = λ i v e. absurd (maybe.some-ne-none v (sym e));
+    waited = λ i v e. absurd (maybe.some-ne-none v (sym e));
+    one = λ i v e. absurd (maybe.some-ne-none v (sym e));
+    last = λ b below since. absurd (omega arith);
+  }
+
   -- ONE SEAT GOES ON, from v to w
   module _ (elected after : ℕ → ℕ) (seats : List Outcome) (h : OneElected bars opening elected seats) (id : ℕ) (v w : Outcome) (at : get_elem? seats id ≡ maybe.some v) (waits : WaitsSince w) where
     abbrev now_seats : List Outcome
@@ -70,7 +88,7 @@ module _ (bars opening : ℕ) where
     StillPassed = (b ph : ℕ) → WaitedOut v.passed b ph → WaitedOut w.passed b ph
 
     -- it isn't elected, and each record says what it said
-    pub unelected : w.elections ≡ v.elections → HasPassed → StillPassed → ((b : ℕ) → b < bars → after b ≡ elected b) → OneElected bars opening after now_seats
+    unelected : w.elections ≡ v.elections → HasPassed → StillPassed → ((b : ℕ) → b < bars → after b ≡ elected b) → OneElected bars opening after now_seats
     unelected same new old says = record {
       waits = each_set WaitsSince seats id w h.waits waits;
       waited = each_set HasWaited seats id w h.waited (λ b ph e. let was = h.waited id v at b ph (subst (λ (l : List (ℕ × ℕ)). Elected l b ph) same e) in (was.0, old b (ph - 1) was.1));
@@ -80,6 +98,15 @@ module _ (bars opening : ℕ) where
       where
         still : (b ph : ℕ) → OneHas seats b ph → OneHas now_seats b ph
         still b ph one = let s = sum b ph in let e : elected_for b ph w ≡ elected_for b ph v = ap (times_of b ph) same in omega arith
+
+    -- where it waited out no further phase, and where it did, for whose next one is elected
+    pub keeps : w.passed ≡ v.passed → w.elections ≡ v.elections → ((b : ℕ) → b < bars → after b ≡ elected b) → OneElected bars opening after now_seats
+    keeps passed same says = unelected same (λ b ph out. inl (subst (λ (l : List (ℕ × ℕ)). WaitedOut l b ph) passed out)) (λ b ph out. subst (λ (l : List (ℕ × ℕ)). WaitedOut l b ph) (sym passed) out) says
+
+    pub notices : (b ph : ℕ) → w.passed ≡ (b, ph) ∷ v.passed → OneHas seats b (suc ph) → w.elections ≡ v.elections → ((b : ℕ) → b < bars → after b ≡ elected b) → OneElected bars opening after now_seats
+    notices b ph passed one same says = unelected same
+        (λ c g out. ⊎_elim (λ (t : (b ≡ c) × (ph ≡ g)). inr (subst (λ (x : ℕ × ℕ). OneHas seats x.0 (suc x.1)) (λ i. (t.0 i, t.1 i)) one)) (λ had. inl had) (waited_more c g b ph v.passed (subst (λ (l : List (ℕ × ℕ)). WaitedOut l c g) passed out)))
+        (λ c g out. subst (λ (l : List (ℕ × ℕ)). WaitedOut l c g) (sym passed) (omega arith)) says
 
     -- it is elected for the phase above one that it waited out, for which nobody was, and that barrier's record says so
     pub gains : (b ph : ℕ) → opening ≤ ph → w.passed ≡ (b, ph) ∷ v.passed → w.elections ≡ (b, suc ph) ∷ v.elections → total (elected_for b (suc ph)) seats ≡ 0

@@ -38,6 +38,7 @@ use Rattle.wait_core.proofs.SetLatchWakes.{latch_kept}
 use Rattle.wait_core.proofs.ShutdownWakes.{shutdown_kept}
 use Rattle.wait_core.proofs.WordsAreMade.{made_step}
 use Rattle.wait_core.proofs.Arriving.{Owes, attended_step}
+use Rattle.wait_core.proofs.Electing.{one_elected_step}
 
 -- each step is on a word between the next number and the client's
 pub word_inside : (z : Size) (o : ℕ) (k : WaitStep) → z.cvs ≤ most_conditions → (t : Option ℕ) (p : Place) → o < z.procs → Permits z k (Some o) t p → (0 < word_of z o k) × (word_of z o k < client_base z)
@@ -195,6 +196,7 @@ module _ {C : Type 0} (means : Meanings C) (z : Size) (phase count : ℕ) (s : W
         participants = b.participants;
         arrived = b.arrived;
         elections = b.elections;
+        one_elected = one_elected_step means z phase count s r id v o at own k ok;
         inside = b.inside;
         suits = b.suits;
         client = b.client;

@@ -22,6 +22,7 @@ use Rattle.wait_core.specs.Seating.{Standing, Doings, numbers_of, standing_of, d
 use Rattle.wait_core.specs.LeftAreFree.{IsFree, LeftAreFree}
 use Rattle.wait_core.specs.Fits.{PlacesFit}
 use Rattle.wait_core.specs.Barriers.{Attendance, attendance_of, waits_at, is_from, asks_at, held_field, field_of, phase_in, phases, phases_in, takes_part, waits_from, CountsParticipants, CountsArrived, PhasesAreInside, KnowsPhases, PhasesAreKnown, IsWaiter, WaitersAreQuiet, ElectionsAreRecorded, JobSuits, CallsSuit}
+use Rattle.wait_core.specs.OneElected.{Outcome, outcome_of, elected_in, OneElected}
 use Rattle.wait_core.specs.WordsAreMade.{WordsAreMade}
 use Rattle.wait_core.specs.Promises.{LastHoldsAlone}
 use Rattle.wait_core.specs.Rule.{SeatsAreCounted, Rule}
@@ -33,6 +34,8 @@ use Rattle.wait_core.proofs.Attachments.{none_waited}
 use Rattle.wait_core.specs.Stances.{Homes}
 use Rattle.wait_core.proofs.Attending.{here_idle, unmoved, moved}
 use Rattle.wait_core.proofs.Arriving.{attended, few_views}
+use Rattle.wait_core.proofs.Outcomes.{one_more, one_joined}
+use Rattle.wait_core.proofs.Electing.{one_unmoved}
 use Rattle.wait_core.proofs.BarriersKept.{elected_either, nobody_elected, barriers_more, barriers_joined}
 use Rattle.wait_core.proofs.Turns.{first as is_first, client as is_client}
 use Rattle.wait_core.specs.ListsAreMade.{ListsAreMade}
@@ -105,6 +108,7 @@ module _ {C : Type 0} (means : Meanings C) (z : Size) (phase count : ℕ) where
         participants = b'.participants;
         arrived = b'.arrived;
         elections = b'.elections;
+        one_elected = one_unmoved means z phase count s r id v w at refl refl;
         inside = b'.inside;
         suits = b'.suits;
         client = b'.client;
@@ -143,6 +147,7 @@ module _ {C : Type 0} (means : Meanings C) (z : Size) (phase count : ℕ) where
         participants = b.participants;
         arrived = b.arrived;
         elections = b.elections;
+        one_elected = one_unmoved means z phase count s r id v w at refl refl;
         inside = b.inside;
         suits = b.suits;
         client = b.client;
@@ -192,6 +197,8 @@ module _ {C : Type 0} (means : Meanings C) (z : Size) (phase count : ℕ) where
           past = λ b below. let was = r.elections.past b below in let e = held (λ y. y.elected) (slot_of (Bar b)) in let ph = held (λ y. y.phase) (slot_of (Bar b)) in omega arith;
           known = each_more (IsRecorded z s.homes (before ++ attendance_of w ∷ [])) before (attendance_of w) (λ j u e b ph won. let was = r.elections.known j u e b ph won in let most = was.1 in let same = held (λ y. y.elected) (slot_of (Bar b)) in (was.0, omega arith)) (λ b ph won. absurd (nobody_elected b ph won));
         });
+        one_elected = subst (λ (y : List (Attendance C) × List Outcome). OneElected z.bars phase (λ b. elected_in b s.homes y.0) y.1) (λ i. (sym seen i, sym (map-append outcome_of vs (w ∷ []) ∙ ap (λ (l : List Outcome). l ++ outcome_of w ∷ []) (unseen outcome_of s.views id v (stays v) at refl)) i))
+            (one_more z.bars phase (λ b. elected_in b s.homes before) (λ b. elected_in b s.homes (before ++ attendance_of w ∷ [])) (map outcome_of s.views) (outcome_of w) r.one_elected (λ b ph e. absurd (cc)) refl refl (λ b below. let e = held (λ y. y.elected) (slot_of (Bar b)) in omega arith));
         inside = subst (PhasesAreInside z phase s.homes) (sym seen) (λ b below. let was = r.inside b below in let low = was.0 in let high = was.1 in let e = held (λ y. y.phase) (slot_of (Bar b)) in (omega arith, omega arith));
         suits = subst (CallsSuit means) (sym seen) (each_more (λ (u : Attendance C). JobSuits means (asks_at u.place) u.party) before (attendance_of w) r.suits tt);
         client = subst (λ (y : List (PartyView C) × List ℕ). means.holds (drop (client_base z) s.words) y.0 y.1) (λ i. (parties i, sym stay i))
@@ -261,6 +268,9 @@ module _ {C : Type 0} (means : Meanings C) (z : Size) (phase count : ℕ) where
               (λ b ph won. ⊎_elim (λ mine. moved_over id (attendance_of v) seat b ph mine) (λ its. moved_over other (attendance_of w) (at_map attendance_of s.views other w there) b ph its) (elected_either v.elections w.elections b ph won.0 won.1)))
               (λ b ph won. absurd (nobody_elected b ph won));
         });
+        one_elected = subst (λ (q : List (Attendance C) × List Outcome). OneElected z.bars phase (λ b. elected_in b s.homes q.0) q.1) (λ i. (sym seen i, sym (map-set outcome_of vs other y ∙ ap (λ (l : List Outcome). set l other (outcome_of y)) (map-set outcome_of s.views id x)) i))
+            (one_joined z.bars phase (λ b. elected_in b s.homes before) (λ b. elected_in b s.homes (set (set before id (attendance_of x)) other (attendance_of y))) (map outcome_of s.views) id other (outcome_of v) (outcome_of w) (outcome_of x) (outcome_of y) r.one_elected apart (at_map outcome_of s.views id v at) (at_map outcome_of s.views other w there)
+            (r.one_elected.waits id (outcome_of v) (at_map outcome_of s.views id v at)) (λ b ph e. absurd (cc)) refl refl refl refl (λ b below. let e = held (λ q. q.elected) (slot_of (Bar b)) in omega arith));
         inside = subst (PhasesAreInside z phase s.homes) (sym seen) (λ b below. let was = r.inside b below in let low = was.0 in let high = was.1 in let e = held (λ q. q.phase) (slot_of (Bar b)) in (omega arith, omega arith));
         suits = subst (CallsSuit means) (sym seen) (each_set (λ (u : Attendance C). JobSuits means (asks_at u.place) u.party) (set before id (attendance_of x)) other (attendance_of y)
             (each_set (λ (u : Attendance C). JobSuits means (asks_at u.place) u.party) before id (attendance_of x) r.suits (subst (λ (q : Place). JobSuits means (asks_at q) (party_of x)) (sym idle_is) tt)) tt);
