@@ -18,7 +18,7 @@ use Rattle.wait_core.specs.declared.view.Record.{Record}
 use Rattle.wait_core.specs.declared.view.Size.{Size}
 use Rattle.wait_core.specs.declared.view.WaitView.{WaitView}
 use Rattle.seat_roster.specs.Totals.{total}
-use Rattle.seat_roster.proofs.Totals.{total_none}
+use Rattle.seat_roster.proofs.Totals.{total_at, total_two, total_none, total_some}
 use Rattle.seat_roster.proofs.Stretches.{unseen, from_seen}
 use Rattle.wait_core.specs.Words.{slot_of, slots_in}
 use Rattle.wait_core.specs.Jobs.{spot_of, is_worn, is_last, is_only, is_awaited, has_passed, departed, left_record, elections_after, passed_after, passes_on, resumed, goes_on}
@@ -29,12 +29,13 @@ use Rattle.wait_core.specs.Seating.{standing_of}
 use Rattle.wait_core.specs.Fits.{JobFits, Fits}
 use Rattle.wait_core.specs.Stances.{hand_at, slot_in}
 use Rattle.wait_core.specs.Barriers.{Attendance, attendance_of, waits_at, held_field, field_of}
-use Rattle.wait_core.specs.OneElected.{Outcome, outcome_of, elected_for, OneHas, elected_in, OneElected}
+use Rattle.wait_core.specs.OneElected.{Outcome, outcome_of, times_of, WaitedOut, elected_for, OneHas, elected_in, OneElected}
+use Rattle.wait_core.specs.Promises.{IsElected, OneIsElected}
 use Rattle.wait_core.specs.Rule.{Rule}
 use Rattle.wait_core.proofs.Effects.{spot_inside}
 use Rattle.wait_core.proofs.Attachments.{same_waited, none_waited}
 use Rattle.wait_core.proofs.Hands.{hand_follows, waits_resumed, either_waits, list_waits, IsNoFree, waits_stay}
-use Rattle.wait_core.proofs.Outcomes.{times_elected, says_same as all_say, keeps, notices, gains}
+use Rattle.wait_core.proofs.Outcomes.{times_elected, elected_times, says_same as all_say, keeps, notices, gains}
 use Rattle.wait_core.proofs.Records.{field_same}
 use Rattle.wait_core.proofs.RecordsKept.{view_then, homes_then, records_stay, found_reads, left_reads, others_read}
 
@@ -289,3 +290,27 @@ module _ {C : Type 0} (means : Meanings C) (z : Size) (phase count : ℕ) (s : W
   pub one_elected_step : (k : WaitStep) → Permits z k (Some o) v.target v.place → let h = homes_then means z phase count s r id v o at k in let views = set s.views id (view_then means z phase count s r id v o at k) in OneElected z.bars phase (λ b. elected_in b h (map attendance_of views)) (map outcome_of views)
   one_elected_step k ok = subst (λ (x : List (Attendance C) × List Outcome). OneElected z.bars phase (λ b. elected_in b (homes_then means z phase count s r id v o at k) x.0) x.1)
       (λ i. (sym (map-set attendance_of s.views id (goes_to k)) i, sym (map-set outcome_of s.views id (goes_to k)) i)) (one_elected k ok)
+
+-- WHAT THE RULE SAYS of who was elected
+pub one_is_elected : {C : Type 0} (means : Meanings C) (z : Size) (phase count : ℕ) (s : WaitState C) → Rule means z phase count s → OneIsElected s
+one_is_elected {C} means z phase count s r = record {
+  one = λ id b ph v at out. of_one b ph (r.one_elected.one id (outcome_of v) (at_map outcome_of s.views id v at) b ph out);
+  waited = λ id b ph v at won. let was = earned id b ph v at won in let above = was.0 in (omega arith, was.1);
+}
+  where
+    earned : (id b ph : ℕ) (v : WaitView C) → get_elem? s.views id ≡ maybe.some v → Elected v.elections b ph → (phase < ph) × WaitedOut v.passed b (ph - 1)
+    earned id b ph v at won = r.one_elected.waited id (outcome_of v) (at_map outcome_of s.views id v at) b ph won
+
+    of_one : (b ph : ℕ) → OneHas (map outcome_of s.views) b (suc ph) → (i : ℕ) × IsElected b ph i s
+    of_one b ph one = let some = total_some (elected_for b (suc ph)) (map outcome_of s.views) (omega arith) in let x = from_seen outcome_of s.views some.0 some.1 some.2 in
+        let low : 1 ≤ times_of b (suc ph) x.0.elections = subst (λ (u : Outcome). 1 ≤ elected_for b (suc ph) u) (sym x.2) some.3 in
+        let most = total_at (elected_for b (suc ph)) (map outcome_of s.views) some.0 (outcome_of x.0) (at_map outcome_of s.views some.0 x.0 x.1) in
+        let before = (earned some.0 b (suc ph) x.0 x.1 (times_elected b (suc ph) x.0.elections low)).1 in let is : suc ph - 1 ≡ ph = omega arith in
+        (some.0, record {
+          view = x.0;
+          at = x.1;
+          waited = subst (WaitedOut x.0.passed b) is before;
+          once = omega arith;
+          alone = λ j u there won. dite (ℕ_discrete j some.0) (λ (same : j ≡ some.0). same) (λ ne. let its = elected_times b (suc ph) u.elections won in
+              let two = total_two (elected_for b (suc ph)) (map outcome_of s.views) some.0 j (outcome_of x.0) (outcome_of u) ne (at_map outcome_of s.views some.0 x.0 x.1) (at_map outcome_of s.views j u there) in absurd (omega arith));
+        })

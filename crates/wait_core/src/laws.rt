@@ -14,7 +14,7 @@ ghost use Rattle.wait_core.specs.WordsAreMade.{WordsAreMade};
 ghost use Rattle.wait_core.specs.ListsAreMade.{ListsAreMade};
 ghost use Rattle.wait_core.specs.Rule.{Rule};
 ghost use Rattle.wait_core.specs.Runs.{Deed, Steps, Runs, after_client};
-ghost use Rattle.wait_core.specs.Promises.{NoSetLatchIsSleptOn, NoShutdownIsSleptThrough, NoSignalIsSleptThrough, LastHoldsAlone, IsOpening, IsReached, SentinelStandsBehind, BroadcastWakesAll};
+ghost use Rattle.wait_core.specs.Promises.{NoSetLatchIsSleptOn, NoShutdownIsSleptThrough, NoSignalIsSleptThrough, OneIsElected, LastHoldsAlone, IsOpening, IsReached, SentinelStandsBehind, BroadcastWakesAll};
 
 use crate::party::Party;
 use crate::view::Size;
@@ -58,6 +58,13 @@ pub fn shutdown_wakes<P: Party>(party: &P, size: Size, phase: u64)
 pub fn signal_wakes<P: Party>(party: &P, size: Size, phase: u64)
     ensures states { (s : WaitState P.View) → Rule (P.means party.now) size phase (P.word_count party.now) s → NoSignalIsSleptThrough s }
     ensures runs { (s : WaitState P.View) → IsReached (P.does party.now) (P.may party.now) (P.after party.now) (P.first party.now) P.spent P.both (P.opens party.now) (P.means party.now) (P.word_count party.now) size phase s → NoSignalIsSleptThrough s }
+{}
+
+/// Whatever happens to a new table, of those who waited out a phase of a barrier exactly one is
+/// elected for the next, and nobody else is.
+pub fn one_is_elected<P: Party>(party: &P, size: Size, phase: u64)
+    ensures states { (s : WaitState P.View) → Rule (P.means party.now) size phase (P.word_count party.now) s → OneIsElected s }
+    ensures runs { (s : WaitState P.View) → IsReached (P.does party.now) (P.may party.now) (P.after party.now) (P.first party.now) P.spent P.both (P.opens party.now) (P.means party.now) (P.word_count party.now) size phase s → OneIsElected s }
 {}
 
 /// Whoever stood on a condition's list at the first take of a broadcast has left it since, by a
