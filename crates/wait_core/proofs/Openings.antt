@@ -12,6 +12,7 @@ use Rattle.wait_core.specs.declared.view.Kept.{Kept}
 use Rattle.wait_core.specs.declared.view.PartyView.{PartyView}
 use Rattle.wait_core.specs.declared.view.Record.{Record}
 use Rattle.wait_core.specs.declared.view.Size.{Size}
+use Rattle.wait_core.specs.declared.view.WaitView.{WaitView}
 use Rattle.wait_core.specs.Meanings.{Meanings}
 use Rattle.wait_core.specs.Words.{most_conditions, last_phase, slot_of, may_at, client_base, opening_phases, opened, opening_words}
 use Rattle.wait_core.specs.Machine.{WaitState, home_in}
@@ -71,8 +72,8 @@ module _ {C : Type 0} (means : Meanings C) (z : Size) (phase count : ℕ) (f : �
   long : length machine ≡ client_base z
   long = length-set (replicate (client_base z) 0) 0 1 ∙ length-replicate {A = ℕ} (client_base z) 0
 
-  only_numbered : LeftAreFree (newcomer c (Some 0) ∷ [])
-  only_numbered zero v e none = let own = ap (λ (x : PartyView C). x.proc) (maybe.some-injective _ _ e) in absurd (cc)
+  only_numbered : LeftAreFree (fresh c (Some 0) ∷ [])
+  only_numbered zero v e none = let own = ap (λ (x : WaitView C). x.own) (maybe.some-injective _ _ e) in absurd (cc)
   only_numbered (suc i) v e none = absurd (maybe.some-ne-none v (sym e))
 
   nobody : Barriers {C = C} [] (opening_phases z phase)

@@ -49,8 +49,8 @@ has_number : (own : Option ℕ) (p : ℕ) → own ≡ Some p → own ≡ None �
 has_number own p is none = absurd (cc)
 
 -- the view of a seat that was joined into another is free
-abbrev WasLeft : {C : Type 0} → PartyView C → Type 0
-WasLeft u = u.proc ≡ None → IsFree u
+abbrev WasLeft : {C : Type 0} → WaitView C → Type 0
+WasLeft u = u.own ≡ None → IsFree u
 
 -- what the parts on barriers say of each seat that may wait, and of its elections
 abbrev IsQuietWaiter : {C : Type 0} → Meanings C → Attendance C → Type 0
@@ -185,7 +185,7 @@ module _ {C : Type 0} (means : Meanings C) (z : Size) (phase count : ℕ) where
         made = subst (WordsAreMade z s.words) (sym (map-append doings_of vs (w ∷ []) ∙ ap (λ (l : List Doings). l ++ record { own = v.pending; steps = []; inherited = [] } ∷ []) (unseen doings_of s.views id v (stays v) at refl))) (made_snoc z s.words (map doings_of s.views) v.pending r.made);
         lists_made = subst (ListsAreMade z s.homes) (sym (map-append doings_of vs (w ∷ []) ∙ ap (λ (l : List Doings). l ++ record { own = v.pending; steps = []; inherited = [] } ∷ []) (unseen doings_of s.views id v (stays v) at refl))) (lists_made_snoc z s.homes (map doings_of s.views) v.pending r.lists_made);
         lists = lists_more z r.sized.cvs (get_or s.words 0 0) s.words s.homes s.views (omega (arith, r.sized.long)) r.flags r.roster r.lists id v at (stays v) w v.pending refl refl;
-        left = subst LeftAreFree parties (each_more WasLeft (map party_of s.views) (newcomer c (Some n)) r.left (λ none. record { attached = refl; elections = refl }));
+        left = each_more WasLeft vs w (each_set WasLeft s.views id (stays v) r.left (λ none. let free = r.left id v at none in record { attached = free.attached; elections = free.elections; passed = free.passed })) (λ none. record { attached = refl; elections = refl; passed = refl });
         barriers = subst (λ (y : List (PartyView C) × List ℕ). Barriers y.0 y.1) (λ i. (parties i, sym stay i)) (barriers_more (map party_of s.views) (phases_in z s) c (Some n) r.barriers);
         known = subst (λ (y : List ℕ × List (Attendance C)). PhasesAreKnown y.0 y.1) (λ i. (sym stay i, sym seen i)) (each_more (KnowsPhases (phases_in z s)) before (attendance_of w) r.known (λ b ph e. absurd (cc)));
         waiters = subst (WaitersAreQuiet means) (sym seen) (each_more (IsQuietWaiter means) before (attendance_of w) r.waiters (λ b ph e. absurd (cc)));
@@ -245,8 +245,7 @@ module _ {C : Type 0} (means : Meanings C) (z : Size) (phase count : ℕ) where
         lists_made = subst (ListsAreMade z s.homes) (sym (map-set doings_of vs other y ∙ ap (λ (l : List Doings). set l other record { own = None; steps = []; inherited = [] }) (map-set doings_of s.views id x)))
             (lists_made_joined z s.homes (map doings_of s.views) id other (doings_of v) (doings_of w) apart (at_map doings_of s.views id v at) (at_map doings_of s.views other w there) r.lists_made);
         lists = lists_joined z r.sized.cvs (get_or s.words 0 0) s.words s.homes s.views (omega (arith, r.sized.long)) r.flags r.roster r.lists id v at other w x y apart there still free.0 refl refl;
-        left = subst LeftAreFree parties (each_set WasLeft (set (map party_of s.views) id (joined both (party_of v) (party_of w))) other (left_over c)
-            (each_set WasLeft (map party_of s.views) id (joined both (party_of v) (party_of w)) r.left (λ none. absurd (has_number v.own p own none))) (λ none. record { attached = refl; elections = refl }));
+        left = each_set WasLeft vs other y (each_set WasLeft s.views id x r.left (λ none. absurd (has_number v.own p own none))) (λ none. record { attached = refl; elections = refl; passed = refl });
         barriers = subst (λ (q : List (PartyView C) × List ℕ). Barriers q.0 q.1) (λ i. (parties i, sym stay i)) (barriers_joined (map party_of s.views) (phases_in z s) id other (party_of v) (party_of w) both c r.barriers (at_map party_of s.views id v at) (at_map party_of s.views other w there) apart);
         known = subst (λ (q : List ℕ × List (Attendance C)). PhasesAreKnown q.0 q.1) (λ i. (sym stay i, sym seen i))
             (each_set (KnowsPhases (phases_in z s)) (set before id (attendance_of x)) other (attendance_of y) (each_set (KnowsPhases (phases_in z s)) before id (attendance_of x) r.known (r.known id (attendance_of v) seat)) (λ b ph e. absurd (cc)));
@@ -302,6 +301,6 @@ module _ {C : Type 0} (means : Meanings C) (z : Size) (phase count : ℕ) where
   pub alone_at_last : (s : WaitState C) → Rule means z phase count s → LastHoldsAlone s
   alone_at_last s r i j v u apart at there own all =
       let none = others_numberless s r i v at own all j u apart there in
-      let free = r.left j (party_of u) (at_map party_of s.views j u there) none in
+      let free = r.left j u there none in
       let out = r.places.unnumbered j (standing_of u) (at_map standing_of s.views j u there) none in
-      record { numberless = none; idle = out.0; target = out.1; attached = free.attached; elections = free.elections }
+      record { numberless = none; idle = out.0; target = out.1; attached = free.attached; elections = free.elections; passed = free.passed }

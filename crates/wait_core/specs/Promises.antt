@@ -53,6 +53,7 @@ module _ {C : Type 0} where
     pub target : u.target ≡ None
     pub attached : u.attached ≡ []
     pub elections : u.elections ≡ []
+    pub passed : u.passed ≡ []
 
   -- once the seat with the number 0 has taken over every number that it drew, nothing is with any other
   abbrev pub LastHoldsAlone : WaitState C → Type 0

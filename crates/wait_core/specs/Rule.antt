@@ -50,7 +50,7 @@ module _ {C : Type 0} (means : Meanings C) (z : Size) (phase count : ℕ) where
     pub made : WordsAreMade z s.words (map doings_of s.views)
     pub lists_made : ListsAreMade z s.homes (map doings_of s.views)
     pub lists : ListsStand z s.words s.homes (map stance_of s.views)
-    pub left : LeftAreFree (map party_of s.views)
+    pub left : LeftAreFree s.views
     pub barriers : Barriers (map party_of s.views) (phases_in z s)
     pub known : PhasesAreKnown (phases_in z s) (map attendance_of s.views)
     pub waiters : WaitersAreQuiet means (map attendance_of s.views)
