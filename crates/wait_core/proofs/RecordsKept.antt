@@ -47,7 +47,7 @@ apart_slot (Free x target) apart n o = absurd apart
 apart_slot k apart n o = refl
 
 -- is made with nothing in hand
-apart_free : (z : Size) (k : WaitStep) (own t : Option ℕ) (p : Place) → IsApart k → Permits z k own t p → slot_in (hand_at p) ≡ None
+pub apart_free : (z : Size) (k : WaitStep) (own t : Option ℕ) (p : Place) → IsApart k → Permits z k own t p → slot_in (hand_at p) ≡ None
 apart_free z k own t (Holding j list found ∷ p) apart ok = absurd (by_kind k apart ok)
   where
     by_kind : (k : WaitStep) → IsApart k → Permits z k own t (Holding j list found ∷ p) → ⊥
@@ -70,17 +70,17 @@ apart_free z k own t (Holding j list found ∷ p) apart ok = absurd (by_kind k a
     by_kind (Free x target) apart ok = apart
 apart_free z k own t p apart ok = refl
 module _ {C : Type 0} (means : Meanings C) (z : Size) (phase count : ℕ) (s : WaitState C) (r : Rule means z phase count s) where
-  wide : client_base z ≤ length s.words
+  pub wide : client_base z ≤ length s.words
   wide = let long = r.sized.long in omega arith
 
-  spins : SpinsAreFlags z s.words
+  pub spins : SpinsAreFlags z s.words
   spins x below = r.flags (spin_at z x) (omega arith) (omega arith)
 
   -- a slot is out with one seat at most, counted as the parts on barriers see the seats
   pub held_once : (x : ℕ) → total (slot_held x) (map attendance_of s.views) ≡ total (has_list x) (map stance_of s.views)
   held_once x = total_map (slot_held x) attendance_of s.views ∙ sym (total_map (has_list x) stance_of s.views)
 
-  few_held : (x : ℕ) → x < slots_in z → total (slot_held x) (map attendance_of s.views) ≤ 1
+  pub few_held : (x : ℕ) → x < slots_in z → total (slot_held x) (map attendance_of s.views) ≤ 1
   few_held x below = let one = one_hand z s.words s.homes (map stance_of s.views) wide spins r.lists.hands x below in let same = held_once x in omega arith
 
   module _ (id : ℕ) (v : WaitView C) (o : ℕ) (at : get_elem? s.views id ≡ maybe.some v) where
