@@ -7,14 +7,13 @@ use mathlib.Core.Logic.{dite}
 use mathlib.Core.Option as maybe
 use native.Mathlib.Decide.{ℕ_discrete}
 use lib.ListN.{get_elem?}
-use Rattle.atomic_table.specs.Table.{homes_after, keeps, takes, stepped}
+use Rattle.atomic_table.specs.Table.{stepped}
 use Rattle.atomic_table.proofs.Lists.{at_map, at_set}
 use Rattle.wait_core.specs.declared.step.Spot.{Spot}
-use Rattle.wait_core.specs.declared.step.Spot.TheVariants.{Cv, Bar}
-use Rattle.wait_core.specs.declared.step.Call.{Call}
+use Rattle.wait_core.specs.declared.step.Spot.TheVariants.{Bar}
 use Rattle.wait_core.specs.declared.step.WaitStep.{WaitStep}
-use Rattle.wait_core.specs.declared.step.WaitStep.TheVariants.{Sload, Sset, Reset, Mstore, Mload, Byte, Look, Drain, Shload, Shstore, Take, Spin, Free}
-use Rattle.wait_core.specs.declared.view.Frame.TheVariants.{Taking, Holding, Settling, Dozing, Passing, Returning}
+use Rattle.wait_core.specs.declared.step.WaitStep.TheVariants.{Take, Free}
+use Rattle.wait_core.specs.declared.view.Frame.TheVariants.{Holding, Settling, Dozing, Passing, Returning}
 use Rattle.wait_core.specs.declared.view.Job.{Job}
 use Rattle.wait_core.specs.declared.view.Job.TheVariants as job
 use Rattle.wait_core.specs.declared.view.Kept.{Kept}
@@ -26,27 +25,23 @@ use Rattle.seat_roster.specs.Totals.{total}
 use Rattle.seat_roster.specs.Roster.{one_if}
 use Rattle.seat_roster.proofs.Totals.{total_set, total_at, total_map, total_none, total_some}
 use Rattle.seat_roster.proofs.Stretches.{from_seen, each_set}
-use Rattle.wait_core.specs.Words.{last_phase, slot_of, slots_in, spin_at, client_base, client_words}
+use Rattle.wait_core.specs.Words.{last_phase, slot_of, slots_in, client_base, client_words}
 use Rattle.wait_core.specs.Jobs.{spot_of, is_worn, is_last, is_only, is_awaited, has_passed, departed, left_record, away_from, at_phase, attached_after, elections_after, passes_on, resumed, goes_on}
-use Rattle.wait_core.specs.Machine.{WaitState, Place, top, taken, number_of, word_of, becomes, left_at, freed, home_in, home_of, slot_number, act_of, carried, freed_attached, freed_elections, attached_then, elections_then, next_with, IsSpot, MayFree, MayTake, Permits}
+use Rattle.wait_core.specs.Machine.{WaitState, Place, top, number_of, word_of, becomes, left_at, freed, home_in, slot_number, act_of, carried, freed_attached, freed_elections, attached_then, elections_then, next_with, MayFree, Permits}
 use Rattle.wait_core.specs.Meanings.{Meanings}
 use Rattle.wait_core.specs.Parties.{phase_of, now, Elected, elected, Reattached, Barriers, Here, HereBut, IsEnter, IsNotice, IsElection, IsPass, IsLeave}
 use Rattle.wait_core.specs.Seating.{numbers_of, standing_of, party_of}
 use Rattle.wait_core.specs.Fits.{JobFits, Fits}
-use Rattle.wait_core.specs.Stances.{Homes, hand_at, slot_in, stance_of, has_list}
-use Rattle.wait_core.specs.Barriers.{Attendance, attendance_of, noticing, waits_at, asked, asks_at, asks_then, held_field, field_of, phase_in, phases, phases_in, takes_part, waits_from, KnowsPhases, IsWaiter, IsDone, LetsPass, LetsLeave, LetsBoth, JobSuits, StepSuits}
+use Rattle.wait_core.specs.Stances.{Homes, hand_at, slot_in}
+use Rattle.wait_core.specs.Barriers.{Attendance, attendance_of, noticing, waits_at, asked, asks_at, asks_then, field_of, phase_in, phases_in, takes_part, waits_from, IsWaiter, IsDone, LetsPass, JobSuits, StepSuits}
 use Rattle.wait_core.specs.Rule.{Rule}
-use Rattle.wait_core.specs.Told.{slot_then}
-use Rattle.wait_core.specs.Sending.{IsApart}
 use Rattle.wait_core.proofs.Effects.{spot_inside}
-use Rattle.wait_core.proofs.Turning.{enters}
-use Rattle.wait_core.proofs.SpinInOneHand.{SpinsAreFlags, one_hand, home_out}
-use Rattle.wait_core.proofs.Hands.{hand_follows, asks_follows, taking_free, IsNoFree, waits_stay, IsOfList, list_waits}
-use Rattle.wait_core.proofs.Attachments.{attached_here, attached_else, away_here, away_else, moved_else, attached_after as is_attached, moved_after, away_after, some_is, none_isnt, waited, same_waited, none_waited, waits_none, waits_here, waits_else, waits_before, waiting_is}
+use Rattle.wait_core.proofs.Hands.{hand_follows, asks_follows, IsNoFree, waits_stay, IsOfList, list_waits}
+use Rattle.wait_core.proofs.Attachments.{attached_here, attached_else, away_here, away_else, moved_else, attached_after as is_attached, moved_after, away_after, some_is, none_isnt, waited, same_waited, none_waited, waits_none, waits_here, waits_before, waiting_is}
 use Rattle.wait_core.proofs.BarriersKept.{elected_more, IsNew, Wins, barriers_set, barriers_passed}
 use Rattle.wait_core.proofs.RecordsKept.{homes_then, records_stay, found_reads, left_reads, others_read}
-use Rattle.wait_core.proofs.Records.{ReadsNothing, slot_held, opened_long, opened_at, opened_same, opened_set, held_none, field_same, field_out, field_sent, field_apart, field_held, field_home}
-use Rattle.wait_core.proofs.Attending.{here_idle, here_waiting, Attended, before, after, there, field_was, field_is, phases_are, Goes, goes, PhasesStay, phases_stay, others_know, still_inside, was_won, was_inside, same_part, same_waits, RecordsStay, unmoved}
+use Rattle.wait_core.proofs.Records.{ReadsNothing, opened_long, opened_at, opened_set}
+use Rattle.wait_core.proofs.Attending.{here_idle, here_waiting, Attended, there, phases_are, goes, phases_stay, same_part, same_waits, unmoved}
 use Rattle.wait_core.proofs.Passing.{arrived_less, others_wait, all_quiet, some_waits}
 
 module _ {C : Type 0} (means : Meanings C) where
@@ -456,7 +451,6 @@ module _ {C : Type 0} (means : Meanings C) (z : Size) (phase count : ℕ) (s : W
 
               one_less : total (takes_part b) now_seats + 1 ≡ found.participants
               one_less = let sum = part_sum in let was = found_participants in let none = gone in let one : takes_part b (attendance_of v) ≡ 1 = ap one_if there in omega arith
-
 
           -- THE PHASE PASSES: all others wait for that
           module _ (ph : ℕ) (mine : phase_of v.attached b ≡ Some ph) (done : means.quiet (party_of v) b ph) (last : found.arrived + 1 ≡ found.participants) (lets : means.passes b ph) (low_phase : ph < last_phase) where

@@ -1,6 +1,5 @@
 -- What each step keeps of barriers, and of the client's law.
-use Rattle.std.proofs.Common.{◌≡◌, ◌≢◌, ◌⊎◌, ℕ, suc, ◌+◌, ◌-◌, ◌<◌, ◌≤◌, eqb, Bool, true, false, cond, List, [], ◌∷◌, map, length, get_or, set, Option, None, Some, refl, sym, ap, ◌∙◌, subst, ⊎_elim, inl, inr, arith}
-use Rattle.std.proofs.lemmas.List.{length-map}
+use Rattle.std.proofs.Common.{◌≡◌, ◌≢◌, ◌⊎◌, ℕ, suc, ◌<◌, ◌≤◌, List, [], map, length, set, None, Some, refl, sym, ap, ◌∙◌, subst, ⊎_elim, inl, inr, arith}
 use mathlib.Core.Option as maybe
 use lib.ListN.{get_elem?}
 use lib.Seq.{map-set}
@@ -14,7 +13,7 @@ use Rattle.seat_roster.specs.Roster.{one_if}
 use Rattle.seat_roster.proofs.Totals.{total_set}
 use Rattle.seat_roster.proofs.Stretches.{unseen, from_seen, each_set}
 use Rattle.wait_core.specs.Words.{last_phase, client_words}
-use Rattle.wait_core.specs.Machine.{WaitState, left_at}
+use Rattle.wait_core.specs.Machine.{WaitState}
 use Rattle.wait_core.specs.Meanings.{Meanings}
 use Rattle.wait_core.specs.Parties.{phase_of, now, Elected, Barriers, Here, HereBut}
 use Rattle.wait_core.specs.Seating.{party_of}
@@ -23,7 +22,7 @@ use Rattle.wait_core.specs.Stances.{Homes}
 use Rattle.wait_core.specs.Barriers.{Attendance, attendance_of, waits_at, is_from, asks_at, field_of, phase_in, phases, phases_in, takes_part, waits_from, CountsParticipants, CountsArrived, PhasesAreInside, KnowsPhases, PhasesAreKnown, IsWaiter, WaitersAreQuiet, ElectionsAreRecorded, JobSuits, CallsSuit}
 use Rattle.wait_core.specs.ClientHolds.{ClientHolds}
 use Rattle.wait_core.proofs.Records.{ReadsNothing, opened_long, opened_at, opened_same}
-use Rattle.wait_core.proofs.BarriersKept.{AllNear, AllPast, Wins, barriers_set}
+use Rattle.wait_core.proofs.BarriersKept.{Wins, barriers_set}
 use Rattle.wait_core.proofs.Attachments.{waited, same_waited, none_waited}
 
 -- a seat that waits for no phase knows that of each barrier; one that waits knows that of each other

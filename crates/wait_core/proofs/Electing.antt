@@ -1,5 +1,5 @@
 -- Each step of the machine keeps it that of those who waited out a phase one is elected.
-use Rattle.std.proofs.Common.{◌≡◌, ◌≢◌, ◌⊎◌, ℕ, suc, ◌+◌, ◌-◌, ◌<◌, ◌≤◌, eqb, Bool, true, false, cond, List, [], ◌∷◌, map, get_or, set, Option, None, Some, refl, sym, ap, ◌∙◌, subst, ⊎_elim, inl, inr, arith, eqb-true}
+use Rattle.std.proofs.Common.{◌≡◌, ◌≢◌, ℕ, suc, ◌+◌, ◌-◌, ◌<◌, ◌≤◌, eqb, Bool, true, false, cond, List, [], ◌∷◌, map, get_or, set, Option, None, Some, refl, sym, ap, ◌∙◌, subst, arith, eqb-true}
 use Rattle.std.proofs.lemmas.Bool.{eqb-false}
 use mathlib.Core.Logic.{dite}
 use mathlib.Core.Option as maybe
@@ -26,7 +26,7 @@ use Rattle.wait_core.specs.Machine.{WaitState, Place, top, number_of, word_of, l
 use Rattle.wait_core.specs.Meanings.{Meanings}
 use Rattle.wait_core.specs.Parties.{Elected}
 use Rattle.wait_core.specs.Seating.{standing_of}
-use Rattle.wait_core.specs.Fits.{JobFits, Fits}
+use Rattle.wait_core.specs.Fits.{Fits}
 use Rattle.wait_core.specs.Stances.{hand_at, slot_in}
 use Rattle.wait_core.specs.Barriers.{Attendance, attendance_of, waits_at, held_field, field_of}
 use Rattle.wait_core.specs.OneElected.{Outcome, outcome_of, times_of, WaitedOut, elected_for, OneHas, elected_in, OneElected}
@@ -48,25 +48,25 @@ no_free_passed : (k : WaitStep) → IsNoFree k → (p : Place) (l : List (ℕ ×
 no_free_passed (Free x target) none p l = absurd none
 no_free_passed k none p l = refl
 
--- a job that is neither an arrival nor the look whether the phase has passed
-abbrev IsApart : Job → Type 0
-IsApart (job.Arrive b) = ⊥
-IsApart (job.Notice b ph) = ⊥
-IsApart j = Unit {0}
+-- the free of the job elects nobody: it is neither an arrival nor the look whether the phase has passed
+abbrev ElectsNobody : Job → Type 0
+ElectsNobody (job.Arrive b) = ⊥
+ElectsNobody (job.Notice b ph) = ⊥
+ElectsNobody j = Unit {0}
 
 passes_waits : (passes : Bool) (b : ℕ) (found : Record) (p : Place) → waits_at (passes_on passes b found p) ≡ waits_at p
 passes_waits true b found p = refl
 passes_waits false b found p = waits_resumed p
 
--- its free changes nothing of where the seat waits, nor of the last election
-apart_waits : (j : Job) (own : ℕ) (list : List ℕ) (found : Record) (p : Place) → IsApart j → waits_at (goes_on j own list found p) ≡ waits_at (Holding j list found ∷ p)
-apart_waits (job.Attach b) own list found p apart = waits_resumed p
-apart_waits (job.Detach b) own list found p apart = passes_waits (is_awaited found) b found p
-apart_waits (job.ArriveDetach b) own list found p apart = either_waits (is_worn found) (resumed p) (passes_on (is_last found) b found p) (waits_at p) (waits_resumed p) (passes_waits (is_last found) b found p)
-apart_waits (job.ExceptLast b) own list found p apart = waits_resumed p
-apart_waits (job.Arrive b) own list found p apart = absurd apart
-apart_waits (job.Notice b ph) own list found p apart = absurd apart
-apart_waits j own list found p apart = list_waits j own list found p tt
+-- it changes nothing of where the seat waits, nor of the last election that the record says
+still_waits : (j : Job) (own : ℕ) (list : List ℕ) (found : Record) (p : Place) → ElectsNobody j → waits_at (goes_on j own list found p) ≡ waits_at (Holding j list found ∷ p)
+still_waits (job.Attach b) own list found p nobody = waits_resumed p
+still_waits (job.Detach b) own list found p nobody = passes_waits (is_awaited found) b found p
+still_waits (job.ArriveDetach b) own list found p nobody = either_waits (is_worn found) (resumed p) (passes_on (is_last found) b found p) (waits_at p) (waits_resumed p) (passes_waits (is_last found) b found p)
+still_waits (job.ExceptLast b) own list found p nobody = waits_resumed p
+still_waits (job.Arrive b) own list found p nobody = absurd nobody
+still_waits (job.Notice b ph) own list found p nobody = absurd nobody
+still_waits j own list found p nobody = list_waits j own list found p tt
 
 departed_elected : (passes : Bool) (r : Record) → (departed passes r).elected ≡ r.elected
 departed_elected true r = refl
@@ -76,23 +76,23 @@ either_elected : (b : Bool) (x y r : Record) → x.elected ≡ r.elected → y.e
 either_elected true x y r e f = e
 either_elected false x y r e f = f
 
-apart_elected : (j : Job) (r : Record) → IsApart j → (left_record j r).elected ≡ r.elected
-apart_elected (job.Arrive b) r apart = absurd apart
-apart_elected (job.Notice b ph) r apart = absurd apart
-apart_elected (job.Detach b) r apart = departed_elected (is_awaited r) r
-apart_elected (job.ArriveDetach b) r apart = either_elected (is_worn r) r (departed (is_last r) r) r refl (departed_elected (is_last r) r)
-apart_elected (job.ExceptLast b) r apart = either_elected (is_worn r) r (cond (is_only r) (record r { phase = r.phase + 1 }) (record r { participants = r.participants - 1 })) r refl (either_elected (is_only r) (record r { phase = r.phase + 1 }) (record r { participants = r.participants - 1 }) r refl refl)
-apart_elected j r apart = refl
+still_elected : (j : Job) (r : Record) → ElectsNobody j → (left_record j r).elected ≡ r.elected
+still_elected (job.Arrive b) r nobody = absurd nobody
+still_elected (job.Notice b ph) r nobody = absurd nobody
+still_elected (job.Detach b) r nobody = departed_elected (is_awaited r) r
+still_elected (job.ArriveDetach b) r nobody = either_elected (is_worn r) r (departed (is_last r) r) r refl (departed_elected (is_last r) r)
+still_elected (job.ExceptLast b) r nobody = either_elected (is_worn r) r (cond (is_only r) (record r { phase = r.phase + 1 }) (record r { participants = r.participants - 1 })) r refl (either_elected (is_only r) (record r { phase = r.phase + 1 }) (record r { participants = r.participants - 1 }) r refl refl)
+still_elected j r nobody = refl
 
-apart_elections : (j : Job) (r : Record) (l : List (ℕ × ℕ)) → IsApart j → elections_after j r l ≡ l
-apart_elections (job.Arrive b) r l apart = absurd apart
-apart_elections (job.Notice b ph) r l apart = absurd apart
-apart_elections j r l apart = refl
+still_elections : (j : Job) (r : Record) (l : List (ℕ × ℕ)) → ElectsNobody j → elections_after j r l ≡ l
+still_elections (job.Arrive b) r l nobody = absurd nobody
+still_elections (job.Notice b ph) r l nobody = absurd nobody
+still_elections j r l nobody = refl
 
-apart_passed : (j : Job) (r : Record) (l : List (ℕ × ℕ)) → IsApart j → passed_after j r l ≡ l
-apart_passed (job.Arrive b) r l apart = absurd apart
-apart_passed (job.Notice b ph) r l apart = absurd apart
-apart_passed j r l apart = refl
+still_passed : (j : Job) (r : Record) (l : List (ℕ × ℕ)) → ElectsNobody j → passed_after j r l ≡ l
+still_passed (job.Arrive b) r l nobody = absurd nobody
+still_passed (job.Notice b ph) r l nobody = absurd nobody
+still_passed j r l nobody = refl
 
 -- a step of another kind, which leaves where the seat stands and what came of its arrivals
 pub one_unmoved : {C : Type 0} (means : Meanings C) (z : Size) (phase count : ℕ) (s : WaitState C) → Rule means z phase count s → (id : ℕ) (v w : WaitView C) → get_elem? s.views id ≡ maybe.some v → w.place ≡ v.place → outcome_of w ≡ outcome_of v
@@ -210,8 +210,8 @@ module _ {C : Type 0} (means : Meanings C) (z : Size) (phase count : ℕ) (s : W
         gains_next ph low_phase vacant idle passed won left = let e = said_is in gains z.bars phase said (says step) outcomes r.one_elected id (outcome_of v) (outcome_of w) member (λ c g is. absurd (none_waited c g (sym idle ∙ is)))
             b ph low_phase passed won (nobody_yet b (suc ph) (omega arith)) (says_left b slot_is ∙ left) (λ c low' ne. others_say c (λ h. ne (let x = sym slot_is ∙ h in omega arith)))
 
-    frees_apart : (j : Job) → IsApart j → FreesAs j
-    frees_apart j apart place ok = keeps_all j place ok (λ b ph is. since b ph (ap waits_at place ∙ (sym (apart_waits j o list found q apart) ∙ (sym (waits_is j place ok) ∙ is)))) (apart_passed j found v.passed apart) (apart_elections j found v.elections apart) (apart_elected j found apart)
+    frees_nobody : (j : Job) → ElectsNobody j → FreesAs j
+    frees_nobody j nobody place ok = keeps_all j place ok (λ b ph is. since b ph (ap waits_at place ∙ (sym (still_waits j o list found q nobody) ∙ (sym (waits_is j place ok) ∙ is)))) (still_passed j found v.passed nobody) (still_elections j found v.elections nobody) (still_elected j found nobody)
 
     one_more : (n : ℕ) → n + 1 ≡ suc n
     one_more n = omega arith
@@ -276,7 +276,7 @@ module _ {C : Type 0} (means : Meanings C) (z : Size) (phase count : ℕ) (s : W
     frees : (j : Job) → FreesAs j
     frees (job.Arrive b) = frees_arrive b
     frees (job.Notice b ph) = frees_notice b ph
-    frees j = frees_apart j tt
+    frees j = frees_nobody j tt
 
   freed_at : (x : Spot) (target : Option ℕ) (p : Place) → v.place ≡ p → MayFree x target v.target (top p) → Permits z (Free x target) (Some o) v.target v.place → StillOneElected (Free x target)
   freed_at x target (Holding j list found ∷ q) place may ok = subst (λ (y : Spot). Permits z (Free y target) (Some o) v.target v.place → StillOneElected (Free y target)) may.0 (frees list found q target j place) ok
@@ -305,12 +305,14 @@ one_is_elected {C} means z phase count s r = record {
     of_one b ph one = let some = total_some (elected_for b (suc ph)) (map outcome_of s.views) (omega arith) in let x = from_seen outcome_of s.views some.0 some.1 some.2 in
         let low : 1 ≤ times_of b (suc ph) x.0.elections = subst (λ (u : Outcome). 1 ≤ elected_for b (suc ph) u) (sym x.2) some.3 in
         let most = total_at (elected_for b (suc ph)) (map outcome_of s.views) some.0 (outcome_of x.0) (at_map outcome_of s.views some.0 x.0 x.1) in
-        let before = (earned some.0 b (suc ph) x.0 x.1 (times_elected b (suc ph) x.0.elections low)).1 in let is : suc ph - 1 ≡ ph = omega arith in
-        (some.0, record {
-          view = x.0;
-          at = x.1;
-          waited = subst (WaitedOut x.0.passed b) is before;
-          once = omega arith;
-          alone = λ j u there won. dite (ℕ_discrete j some.0) (λ (same : j ≡ some.0). same) (λ ne. let its = elected_times b (suc ph) u.elections won in
-              let two = total_two (elected_for b (suc ph)) (map outcome_of s.views) some.0 j (outcome_of x.0) (outcome_of u) ne (at_map outcome_of s.views some.0 x.0 x.1) (at_map outcome_of s.views j u there) in absurd (omega arith));
-        })
+        let before = (earned some.0 b (suc ph) x.0 x.1 (times_elected b (suc ph) x.0.elections low)).1 in let is : suc ph - 1 ≡ ph = omega arith in (
+          some.0,
+          record {
+            view = x.0;
+            at = x.1;
+            waited = subst (WaitedOut x.0.passed b) is before;
+            once = omega arith;
+            alone = λ j u there won. dite (ℕ_discrete j some.0) (λ (same : j ≡ some.0). same) (λ ne. let its = elected_times b (suc ph) u.elections won in
+                let two = total_two (elected_for b (suc ph)) (map outcome_of s.views) some.0 j (outcome_of x.0) (outcome_of u) ne (at_map outcome_of s.views some.0 x.0 x.1) (at_map outcome_of s.views j u there) in absurd (omega arith));
+          },
+        )

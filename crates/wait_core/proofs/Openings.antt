@@ -9,7 +9,6 @@ use Rattle.atomic_table.specs.Table.{opening}
 use Rattle.wait_core.specs.declared.step.Spot.TheVariants.{Bar}
 use Rattle.wait_core.specs.declared.view.Frame.{Frame}
 use Rattle.wait_core.specs.declared.view.Kept.{Kept}
-use Rattle.wait_core.specs.declared.view.PartyView.{PartyView}
 use Rattle.wait_core.specs.declared.view.Record.{Record}
 use Rattle.wait_core.specs.declared.view.Size.{Size}
 use Rattle.wait_core.specs.declared.view.WaitView.{WaitView}

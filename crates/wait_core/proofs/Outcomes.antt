@@ -1,16 +1,16 @@
 -- Who is elected, where a seat waits, notices that its phase has passed or passes it, where a seat comes, and where one takes in another.
-use Rattle.std.proofs.Common.{◌≡◌, ◌≢◌, ◌⊎◌, ℕ, zero, suc, ◌+◌, ◌-◌, ◌<◌, ◌≤◌, eqb, Bool, true, false, cond, List, [], ◌∷◌, ◌++◌, set, Option, Some, refl, sym, ap, ◌∙◌, subst, ⊎_elim, inl, inr, arith}
+use Rattle.std.proofs.Common.{◌≡◌, ◌≢◌, ◌⊎◌, ℕ, suc, ◌+◌, ◌-◌, ◌<◌, ◌≤◌, List, [], ◌∷◌, ◌++◌, set, Some, refl, sym, ap, ◌∙◌, subst, ⊎_elim, inl, inr, arith}
 use mathlib.Core.Logic.{dite}
 use mathlib.Core.Option as maybe
 use native.Mathlib.Decide.{ℕ_discrete}
 use lib.ListN.{get_elem?}
-use Rattle.atomic_table.proofs.Lists.{at_set, set_else}
+use Rattle.atomic_table.proofs.Lists.{set_else}
 use Rattle.seat_roster.specs.Totals.{total}
 use Rattle.seat_roster.proofs.Totals.{total_set, total_snoc}
 use Rattle.seat_roster.proofs.Stretches.{each_set, each_more}
 use Rattle.wait_core.specs.Parties.{Elected}
 use Rattle.wait_core.specs.OneElected.{Outcome, times_of, WaitedOut, elected_for, OneHas, OneElected}
-use Rattle.wait_core.proofs.Attachments.{waited, waits_here, waits_else, waits_before, waiting_is}
+use Rattle.wait_core.proofs.Attachments.{waited, waits_here, waits_else, waits_before}
 use Rattle.wait_core.proofs.BarriersKept.{elected_more, elected_either, nobody_elected}
 
 -- LISTS. One more is on it

@@ -1,13 +1,11 @@
 -- What each step does to what a barrier's record reads: nothing, but for the free of that record.
-use Rattle.std.proofs.Common.{◌≡◌, ◌≢◌, ℕ, ◌+◌, ◌<◌, ◌≤◌, eqb, Bool, true, false, cond, List, [], ◌∷◌, map, length, get_or, set, Option, None, Some, refl, sym, ap, ◌∙◌, subst, arith, eqb-true}
-use Rattle.std.proofs.lemmas.List.{length-map}
+use Rattle.std.proofs.Common.{◌≡◌, ◌≢◌, ℕ, ◌<◌, ◌≤◌, eqb, Bool, true, false, cond, List, ◌∷◌, map, length, get_or, set, Option, None, Some, refl, sym, ap, ◌∙◌, subst, arith, eqb-true}
 use mathlib.Core.Option as maybe
 use lib.ListN.{get_elem?}
 use Rattle.atomic_table.specs.Table.{homes_after, keeps, takes}
 use Rattle.atomic_table.proofs.Lists.{at_map}
 use Rattle.wait_core.specs.declared.step.Spot.{Spot}
-use Rattle.wait_core.specs.declared.step.Spot.TheVariants.{Cv, Bar}
-use Rattle.wait_core.specs.declared.step.Call.{Call}
+use Rattle.wait_core.specs.declared.step.Spot.TheVariants.{Bar}
 use Rattle.wait_core.specs.declared.step.WaitStep.{WaitStep}
 use Rattle.wait_core.specs.declared.step.WaitStep.TheVariants.{Sload, Sset, Reset, Mstore, Mload, Byte, Look, Drain, Shload, Shstore, Take, Spin, Free}
 use Rattle.wait_core.specs.declared.view.Frame.TheVariants.{Taking, Holding}
@@ -69,6 +67,7 @@ apart_free z k own t (Holding j list found ∷ p) apart ok = absurd (by_kind k a
     by_kind (Take x b) apart ok = apart
     by_kind (Free x target) apart ok = apart
 apart_free z k own t p apart ok = refl
+
 module _ {C : Type 0} (means : Meanings C) (z : Size) (phase count : ℕ) (s : WaitState C) (r : Rule means z phase count s) where
   pub wide : client_base z ≤ length s.words
   wide = let long = r.sized.long in omega arith

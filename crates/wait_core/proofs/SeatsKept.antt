@@ -19,7 +19,7 @@ use Rattle.wait_core.specs.Words.{slot_of, client_base}
 use Rattle.wait_core.specs.Machine.{WaitState, Place}
 use Rattle.wait_core.specs.Parties.{phase_of, Elected, with_client, newcomer, joined, left_over, Barriers, IsStep, IsDraw, IsJoin}
 use Rattle.wait_core.specs.Seating.{Standing, Doings, numbers_of, standing_of, doings_of, party_of, client_moved, with_drawn, stays, comes, took_in, spent_view}
-use Rattle.wait_core.specs.LeftAreFree.{IsFree, LeftAreFree}
+use Rattle.wait_core.specs.LeftAreFree.{IsFree}
 use Rattle.wait_core.specs.Fits.{PlacesFit}
 use Rattle.wait_core.specs.Barriers.{Attendance, attendance_of, waits_at, is_from, asks_at, held_field, field_of, phase_in, phases, phases_in, takes_part, waits_from, CountsParticipants, CountsArrived, PhasesAreInside, KnowsPhases, PhasesAreKnown, IsWaiter, WaitersAreQuiet, ElectionsAreRecorded, JobSuits, CallsSuit}
 use Rattle.wait_core.specs.OneElected.{Outcome, outcome_of, elected_in, OneElected}

@@ -4,7 +4,6 @@ use mathlib.Core.Option as maybe
 use lib.ListN.{get_elem?}
 use Rattle.wait_core.specs.declared.view.WaitView.{WaitView}
 use Rattle.seat_roster.specs.Totals.{total}
-use Rattle.wait_core.specs.Machine.{Place}
 use Rattle.wait_core.specs.Parties.{Elected}
 use Rattle.wait_core.specs.Stances.{Homes}
 use Rattle.wait_core.specs.Barriers.{Attendance, waits_at, field_of}
@@ -27,7 +26,7 @@ times_of b ph (x ∷ xs) = cond (x.0 == b) (cond (x.1 == ph) 1 0) 0 + times_of b
 abbrev pub WaitedOut : List (ℕ × ℕ) → ℕ → ℕ → Type 0
 WaitedOut passed b ph = 1 ≤ times_of b ph passed
 
--- exactly one seat was elected for it, once
+-- how often a seat was elected for it; exactly one was, once
 abbrev pub elected_for : ℕ → ℕ → Outcome → ℕ
 elected_for b ph v = times_of b ph v.elections
 
@@ -38,7 +37,7 @@ OneHas seats b ph = total (elected_for b ph) seats ≡ 1
 abbrev pub elected_in : {C : Type 0} → ℕ → Homes → List (Attendance C) → ℕ
 elected_in b homes seats = field_of (λ r. r.elected) b homes seats
 
--- of so many barriers, which open at the phase `opening`, and whose records say this
+-- of so many barriers, which open at the phase `opening`, and whose records say for which phases somebody was elected last
 pub record OneElected (bars opening : ℕ) (elected : ℕ → ℕ) (seats : List Outcome) : Type 0 where
   -- no seat waits from a phase below that of the opening
   pub waits : (id : ℕ) (v : Outcome) → get_elem? seats id ≡ maybe.some v → (b ph : ℕ) → v.waits ≡ Some (b, ph) → opening ≤ ph

@@ -125,7 +125,8 @@ pub fn others_are_left<P: Party>(party: &P, size: Size, phase: u64)
 {}
 
 /// The last seat holds alone: once the seat with the number 0 has taken over every number that it
-/// drew, no other has a number, is in a call, is attached to a barrier or was elected.
+/// drew, no other has a number, is in a call, is attached to a barrier, waited out a phase or was
+/// elected.
 pub fn last_holds_alone<P: Party>(party: &P, size: Size, phase: u64)
     ensures { (s : WaitState P.View) → Rule (P.means party.now) size phase (P.word_count party.now) s → LastHoldsAlone s }
 {}
