@@ -18,14 +18,15 @@ use Rattle.wait_core.specs.declared.view.WaitView.{WaitView}
 use Rattle.std.specs.Prelude.{not}
 use Rattle.seat_roster.specs.Roster.{times}
 use Rattle.wait_core.specs.Words.{slot_of}
-use Rattle.wait_core.specs.Jobs.{spot_of, left_list, left_record, attached_after, target_after, heeds_after, resumed, goes_on, signals, rouses, rouses_on}
+use Rattle.wait_core.specs.Jobs.{spot_of, left_list, left_record, attached_after, target_after, heeds_after, elections_after, passed_after, resumed, goes_on, signals, rouses, rouses_on}
 use Rattle.wait_core.specs.Lists.{AllBelow, is_empty, is_listed, rest_of}
 use Rattle.wait_core.specs.Machine.{Place, top, outer, number_of, made, made_with, as_kept, left_at, reset, taken, spun, next, next_with, takes_first, spot_for, SetsLatchOf, WaitsForLatch, MayBegin, MayTake, MaySpin, Permits}
 use Rattle.wait_core.specs.Meanings.{Meanings}
-use Rattle.wait_core.specs.Barriers.{StepSuits}
+use Rattle.wait_core.specs.Barriers.{StepSuits, waits_at}
 use Rattle.wait_core.specs.Seats.{SeatView}
 use Rattle.wait_core.specs.Stances.{belongs_at}
 use Rattle.wait_core.specs.Told.{TellsList}
+use Rattle.wait_core.proofs.Hands.{entered_waits}
 use Rattle.wait_core.proofs.Lists.{listed_there}
 use Rattle.latch.specs.Reads.{went, HasSet}
 use Rattle.condition_variable.specs.Visits.{OnlySpins, SetsLatch, MayWakeNow, after_wake, entering, head_of, stands, with_items}
@@ -60,23 +61,16 @@ waited x k [] ok = absurd ok
 waited x k (Taking j ∷ p) ok = refl
 waited x k (f ∷ p) ok = absurd ok
 
--- a call that takes a spin word first begins where nothing is behind it
-none_set : (t : Option ℕ) (b : Call) (q : ℕ) (x : Spot) → takes_first t b ≡ Some x → SetsLatchOf q b → ⊥
-none_set None (call.Set r) q x e m = cc
-none_set (Some c) (call.Set r) q x e m = cc
-none_set t b q x e m = absurd m
+-- where a call begins the seat waits as before
+pub entering_waits : (b : Option Call) (t : Option ℕ) (p : Place) → waits_at (entering b t p) ≡ waits_at p
+entering_waits None t p = refl
+entering_waits (Some c) t p = entered_waits t c p
 
-none_wait : (t : Option ℕ) (b : Call) (x : Spot) → takes_first t b ≡ Some x → WaitsForLatch b → ⊥
-none_wait None (call.Wait Latch) x e m = cc
-none_wait (Some c) (call.Wait Latch) x e m = cc
-none_wait t b x e m = absurd m
-
-pub idle : (t : Option ℕ) (b : Call) (p : Place) (x : Spot) → takes_first t b ≡ Some x → MayBegin b p → p ≡ []
-idle t b [] x e m = refl
-idle t b (Signalling c q ∷ p) x e m = absurd (none_set t b q x e m)
-idle t b (Rousing c q more ∷ p) x e m = absurd (none_set t b q x e m)
-idle t b (SleepWaiting c ∷ p) x e m = absurd (none_wait t b x e m)
-idle t b (f ∷ p) x e m = absurd m
+-- a list belongs to whoever takes it as before
+pub belongs_taken : (x : Spot) (t : Option ℕ) (k : Kept) (q : Place) → MayTake x (top q) → belongs_at t (taken true k q) ≡ belongs_at t q
+belongs_taken x t k [] ok = absurd ok
+belongs_taken x t k (Taking j ∷ p) ok = refl
+belongs_taken x t k (f ∷ p) ok = absurd ok
 
 -- STEPS
 module _ {C : Type 0} where
@@ -108,14 +102,18 @@ module _ {C : Type 0} (z : Size) (v : WaitView C) (c : ℕ) (j : Job) (at : spot
   own_is : number_of s.view.own ≡ number_of v.own
   own_is = ap (λ (y : WaitView C). number_of y.own) was
 
-  -- a job on a condition leaves the record and the attachments
-  calm : (r : Record) (l : List (ℕ × ℕ)) → (left_record j r ≡ r) × (attached_after j r l ≡ l)
+  -- a job on a condition leaves the record, the attachments, the elections and the phases that were waited out
+  calm : (r : Record) (l : List (ℕ × ℕ)) → (left_record j r ≡ r) × (attached_after j r l ≡ l) × (elections_after j r l ≡ l) × (passed_after j r l ≡ l)
   calm r l = by_job j at
     where
-      by_job : (i : Job) → spot_of i ≡ Cv c → (left_record i r ≡ r) × (attached_after i r l ≡ l)
+      by_job : (i : Job) → spot_of i ≡ Cv c → (left_record i r ≡ r) × (attached_after i r l ≡ l) × (elections_after i r l ≡ l) × (passed_after i r l ≡ l)
       by_job (job.Attach b) e = absurd (cc)
+      by_job (job.Arrive b) e = absurd (cc)
+      by_job (job.Notice b ph) e = absurd (cc)
       by_job (job.Detach b) e = absurd (cc)
-      by_job i e = (refl, refl)
+      by_job (job.ArriveDetach b) e = absurd (cc)
+      by_job (job.ExceptLast b) e = absurd (cc)
+      by_job i e = (refl, refl, refl, refl)
 
   in_hand : u.view ≡ went v (Holding j s.list s.record ∷ outer q) took
   in_hand = ap (λ (y : SeatView C). y.view) changed ∙ (was ∙ ap (λ (y : Place). went v (taken true (as_kept s.list s.record) y) took) (at_job q enters))
@@ -129,10 +127,10 @@ module _ {C : Type 0} (z : Size) (v : WaitView C) (c : ℕ) (j : Job) (at : spot
   pub sends : as_kept u.list u.record ≡ left_at (number_of u.view.own) u.view.place
   sends = (λ i. as_kept (list_is i) (((λ i. (changed i).record) ∙ sym (calm s.record []).0) i)) ∙ ap (λ (y : WaitView C). left_at (number_of y.own) y.place) (sym in_hand)
 
-  pub visited : (x : WaitView C) (after : Option ℕ) (n : ℕ) (k : Kept) → x ≡ next_with z (Free (Cv c) after) u.view n k → x ≡ stands v (goes_on j (number_of v.own) s.list (outer q)) after (heeds_after j (number_of v.own) s.list v.heeds) (took ++ made_with (Free (Cv c) after) n (left_list j (number_of v.own) s.list) ∷ [])
+  pub visited : (x : WaitView C) (after : Option ℕ) (n : ℕ) (k : Kept) → x ≡ next_with z (Free (Cv c) after) u.view n k → x ≡ stands v (goes_on j (number_of v.own) s.list s.record (outer q)) after (heeds_after j (number_of v.own) s.list v.heeds) (took ++ made_with (Free (Cv c) after) n (left_list j (number_of v.own) s.list) ∷ [])
   visited x after n k is = is ∙ (ap (λ (y : WaitView C). next_with z (Free (Cv c) after) y n k) in_hand
-      ∙ ap (λ (l : List Made). record v { place = goes_on j (number_of v.own) s.list (outer q); steps = l; target = after; heeds = heeds_after j (number_of v.own) s.list v.heeds; attached = attached_after j s.record v.attached }) (append_assoc v.steps took (made_with (Free (Cv c) after) n (left_list j (number_of v.own) s.list) ∷ []))
-      ∙ ap (λ (l : List (ℕ × ℕ)). record v { place = goes_on j (number_of v.own) s.list (outer q); steps = v.steps ++ (took ++ made_with (Free (Cv c) after) n (left_list j (number_of v.own) s.list) ∷ []); target = after; heeds = heeds_after j (number_of v.own) s.list v.heeds; attached = l }) (calm s.record v.attached).1)
+      ∙ ap (λ (l : List Made). record v { place = goes_on j (number_of v.own) s.list s.record (outer q); steps = l; target = after; heeds = heeds_after j (number_of v.own) s.list v.heeds; attached = attached_after j s.record v.attached; elections = elections_after j s.record v.elections; passed = passed_after j s.record v.passed }) (append_assoc v.steps took (made_with (Free (Cv c) after) n (left_list j (number_of v.own) s.list) ∷ []))
+      ∙ (λ i. record v { place = goes_on j (number_of v.own) s.list s.record (outer q); steps = v.steps ++ (took ++ made_with (Free (Cv c) after) n (left_list j (number_of v.own) s.list) ∷ []); target = after; heeds = heeds_after j (number_of v.own) s.list v.heeds; attached = (calm s.record v.attached).1 i; elections = (calm s.record v.elections).2 i; passed = (calm s.record v.passed).3 i }))
 
 -- WHO IS WOKEN
 pub all_wide : (n m : ℕ) (l : List ℕ) → n ≤ m → AllBelow n l → AllBelow m l
@@ -179,15 +177,6 @@ module _ {C : Type 0} where
 pub swapped_set : (n : ℕ) → n ≤ 1 → (n ≡ 0 → ⊥) → n ≡ 1
 swapped_set n most set = omega (arith, most, set)
 
--- what a list tells whoever takes it, where the call begins with that
-pub tells_first : (z : Size) (own : ℕ) (x : Spot) (o t : Option ℕ) (b : Option Call) (p : Place) (l : List ℕ) → Permits z (Take x b) o t p → TellsList z own (belongs_at t p) (slot_of x) l → TellsList z own (belongs_at t (entering b t p)) (slot_of x) l
-tells_first z own x o t None p l ok tells = tells
-tells_first z own x o (Some d) (Some b) p l ok tells = record { all = tells.all; few = tells.few; once = tells.once; mine = tells.mine; room = tells.room }
-tells_first z own x o None (Some b) p l ok tells = record { all = tells.all; few = tells.few; once = tells.once; mine = λ on. absurd (nowhere (tells.mine on)); room = tells.room }
-  where
-    nowhere : belongs_at None p ≡ Some (slot_of x) → ⊥
-    nowhere e = let none : belongs_at None p ≡ None = ap (λ (r : Place). belongs_at None r) (idle None b p x ok.1 ok.3) in cc
-
 pub belongs_nowhere : (c : ℕ) (t : Option ℕ) (q : Place) → top q ≡ Some (Taking (job.Prepare c)) → t ≡ None → belongs_at t q ≡ None
 belongs_nowhere c t [] at none = absurd (cc)
 belongs_nowhere c t (f ∷ p) at none = (λ i. belongs_at (none i) (is i ∷ p))
@@ -227,10 +216,11 @@ asks_nothing means z c o None v ok = tt
 asks_nothing means z c o (Some b) v ok = by_call b v.target ok.1
   where
     by_call : (b : Call) (t : Option ℕ) → takes_first t b ≡ Some (Cv c) → StepSuits means (Take (Cv c) (Some b)) v
-    by_call (call.Attach a) None is = absurd (cc)
-    by_call (call.Attach a) (Some d) is = absurd (cc)
-    by_call (call.Detach a) None is = absurd (cc)
-    by_call (call.Detach a) (Some d) is = absurd (cc)
+    by_call (call.Attach a) t is = absurd (cc)
+    by_call (call.Arrive a) t is = absurd (cc)
+    by_call (call.Detach a) t is = absurd (cc)
+    by_call (call.ArriveDetach a) t is = absurd (cc)
+    by_call (call.ExceptLast a) t is = absurd (cc)
     by_call b t is = tt
 
 -- a call that leaves the list of its target first

@@ -2,7 +2,7 @@
 ghost use Rattle.std.specs.Prelude.{◌≡◌, ◌≤◌, List, ◌∷◌, ◌++◌, [], None, true};
 ghost use Rattle.wait_core.specs.declared.step.WaitStep.TheVariants as kind;
 ghost use Rattle.wait_core.specs.declared.view.Made.{Made};
-ghost use Rattle.wait_core.specs.Barriers.{StepSuits};
+ghost use Rattle.wait_core.specs.Barriers.{StepSuits, waits_at};
 ghost use Rattle.wait_core.specs.Machine.{Allowed, IsSpot, MaySpin, MayTake, as_kept, made_with, number_of, spun, taken, top};
 ghost use Rattle.wait_core.specs.Seating.{party_of};
 ghost use Rattle.wait_core.specs.Seats.{size_of};
@@ -33,7 +33,7 @@ pub fn take_spot<P: Party, R: Wait>(
     ensures table { (seat.new.table_id ≡ seat.old.table_id) × (seat.new.id ≡ seat.old.id) }
     ensures view { (more : List Made) × (seat.new.view ≡ went seat.old.view (taken true (as_kept seat.new.list seat.new.record) (entering begins seat.old.view.target seat.old.view.place)) more) × Takes spot begins seat.new.list more }
     ensures list { TellsList (size_of table.now) (number_of seat.old.view.own) (belongs_at seat.old.view.target (entering begins seat.old.view.target seat.old.view.place)) (slot_of spot) seat.new.list }
-    ensures barrier { TellsRecord (P.means table.now.party) (size_of table.now) table.now.phase (P.word_count table.now.party) spot seat.old.id (party_of seat.old.view) seat.new.record }
+    ensures barrier { TellsRecord (P.means table.now.party) (size_of table.now) table.now.phase (P.word_count table.now.party) spot seat.old.id (waits_at seat.old.view.place) (party_of seat.old.view) seat.new.record }
     ensures few { table.now.procs ≤ 64 }
 {
     let _procs = table.procs();
@@ -58,7 +58,7 @@ fn wait_for_spot<P: Party, R: Wait>(
     ensures table { (seat.new.table_id ≡ seat.old.table_id) × (seat.new.id ≡ seat.old.id) }
     ensures view { (spins : List Made) × (seat.new.view ≡ went seat.old.view (taken true (as_kept seat.new.list seat.new.record) (spun true seat.old.view.place)) (spins ++ made_with (kind.Take spot.now None) 0 seat.new.list ∷ [])) × OnlySpins spot.now spins }
     ensures list { TellsList (size_of table.now) (number_of seat.old.view.own) (belongs_at seat.old.view.target (spun true seat.old.view.place)) (slot_of spot.now) seat.new.list }
-    ensures barrier { TellsRecord (P.means table.now.party) (size_of table.now) table.now.phase (P.word_count table.now.party) spot.now seat.old.id (party_of seat.old.view) seat.new.record }
+    ensures barrier { TellsRecord (P.means table.now.party) (size_of table.now) table.now.phase (P.word_count table.now.party) spot.now seat.old.id (waits_at seat.old.view.place) (party_of seat.old.view) seat.new.record }
 {
     let backoff = Backoff::new();
     for _ in rt.forever() {

@@ -4,6 +4,8 @@ use Rattle.atomic_table.specs.Seated.{TableId}
 use Rattle.atomic_table.specs.Table.{Me, Step, homes_after, keeps, takes, stepped}
 use Rattle.atomic_table.proofs.Lists.{at_map, set_else}
 use Rattle.wait_core.specs.declared.party.ClientOp.{ClientOp}
+use Rattle.wait_core.specs.declared.step.Spot.{Spot}
+use Rattle.wait_core.specs.declared.step.Call.{Call}
 use Rattle.wait_core.specs.declared.step.WaitStep.{WaitStep}
 use Rattle.wait_core.specs.declared.step.WaitStep.TheVariants.{Take, Free}
 use Rattle.wait_core.specs.declared.view.Kept.{Kept}
@@ -18,12 +20,13 @@ use lib.ListN.{get_elem?}
 use Rattle.wait_core.specs.Machine.{WaitState, number_of, word_of, becomes, home_in, slot_number, carried, act_of, next_with, Permits, Allowed}
 use Rattle.wait_core.specs.Parties.{with_client, newcomer, joined, left_over, IsStep, IsDraw, IsJoin}
 use Rattle.wait_core.specs.Seating.{numbers_of, standing_of, party_of, client_moved, with_drawn, stays, comes, took_in, spent_view}
-use Rattle.wait_core.specs.Barriers.{StepSuits}
+use Rattle.wait_core.specs.Barriers.{StepSuits, waits_at}
 use Rattle.wait_core.specs.Rule.{Rule}
-use Rattle.wait_core.specs.Told.{Tells, TellsBarrier, does, does_client, looks, draws, Turns, Cuts, Glues}
+use Rattle.wait_core.specs.Told.{TellsList, Tells, TellsBarrier, does, does_client, looks, draws, Turns, Cuts, Glues}
 use Rattle.wait_core.specs.Seats.{TableView, table_view, size_of}
 use Rattle.wait_core.specs.Sending.{HasSlot}
 use Rattle.wait_core.specs.Stances.{stance_of, belongs_at}
+use Rattle.wait_core.proofs.Turning.{belongs_follow}
 use Rattle.wait_core.proofs.Hands.{hand_follows}
 use Rattle.wait_core.proofs.InHand.{act_valid, step_tells}
 use Rattle.wait_core.proofs.Arriving.{Owes}
@@ -60,8 +63,8 @@ homes_same z k o n found v is homes c h = refl
 module _ {C : Type 0} (means : Meanings C) (z : Size) (phase count : ℕ) where
   -- a step of the machine, where the table's operation does what the machine says
   pub step_turns : Owes means → (slots id : ℕ) (me : Me Kept (WaitView C)) (word o : ℕ) (k : WaitStep) (op : ClientOp) → word ≡ word_of z o k → ((n : ℕ) → op_gives op n ≡ becomes k n) → me.0.own ≡ Some o → Allowed z k me.0 → StepSuits means k me.0 → HasSlot k me.0 me.1
-      → Turns means z phase count slots id me word (op_gives op) (does z (TellsBarrier means z phase count k id me.0.place (party_of me.0)) k me)
-  step_turns laws slots id me word o k op at agrees own ok suits slot = subst (λ (i : ℕ). Turns means z phase count slots id me i (op_gives op) (does z (TellsBarrier means z phase count k id me.0.place (party_of me.0)) k me)) (sym at)
+      → Turns means z phase count slots id me word (op_gives op) (does z (TellsBarrier means z phase count k id (waits_at me.0.place) (party_of me.0)) k me)
+  step_turns laws slots id me word o k op at agrees own ok suits slot = subst (λ (i : ℕ). Turns means z phase count slots id me i (op_gives op) (does z (TellsBarrier means z phase count k id (waits_at me.0.place) (party_of me.0)) k me)) (sym at)
       (λ s r _ there _. let n : ℕ = get_or s.words (word_of z o k) 0 in let found : Kept = home_in s.homes (slot_number k) in let mine = subst (λ (x : Option ℕ). Permits z k x me.0.target me.0.place) own ok in
       let inside = word_inside z o k r.sized.cvs me.0.target me.0.place (own_below means z phase count s r id me.0 o there own) mine in
       let kept = step_kept means z phase count s r id me.0 o there own laws k mine suits in (
@@ -75,9 +78,16 @@ module _ {C : Type 0} (means : Meanings C) (z : Size) (phase count : ℕ) where
       ))
     where
       tells : (s : WaitState C) → Rule means z phase count s → get_elem? s.views id ≡ maybe.some me.0 → Permits z k (Some o) me.0.target me.0.place → (n : ℕ) (found : Kept) → n ≡ get_or s.words (word_of z o k) 0 → found ≡ home_in s.homes (slot_number k)
-          → Tells z k (number_of me.0.own) (belongs_at me.0.target me.0.place) n found.list.items
-      tells s r there mine n found n_is found_is = subst (λ (x : ℕ × ℕ × Kept). Tells z k x.0 (belongs_at me.0.target me.0.place) x.1 x.2.list.items) (λ i. (sym (ap number_of own) i, sym n_is i, sym found_is i))
-          (step_tells z r.sized.cvs (get_or s.words 0 0) s.words s.homes s.views r.roster.few r.roster r.lists o (Some o) me.0.target me.0.place k mine id (stance_of me.0) (at_map stance_of s.views id me.0 there) own (own_below means z phase count s r id me.0 o there own))
+          → let w : WaitView C = next_with z k me.0 n found in Tells z k (number_of me.0.own) (belongs_at w.target w.place) n found.list.items
+      tells s r there mine n found n_is found_is = subst (λ (x : ℕ × ℕ × Kept). Tells z k x.0 (belongs_at (next_with z k me.0 n found).target (next_with z k me.0 n found).place) x.1 x.2.list.items) (λ i. (sym (ap number_of own) i, sym n_is i, sym found_is i))
+          (told_after k (λ x b is. let fit = r.places.fits id (standing_of me.0) (at_map standing_of s.views id me.0 there) in
+          subst (λ (j : WaitStep). Permits z j (Some o) me.0.target me.0.place → belongs_at (next_with z j me.0 n found).target (next_with z j me.0 n found).place ≡ belongs_at me.0.target me.0.place) (sym is) (λ ok. belongs_follow z (Some o) me.0.target x b (number_of me.0.own) n found me.0.place ok fit) mine)
+          (step_tells z r.sized.cvs (get_or s.words 0 0) s.words s.homes s.views r.roster.few r.roster r.lists o (Some o) me.0.target me.0.place k mine id (stance_of me.0) (at_map stance_of s.views id me.0 there) own (own_below means z phase count s r id me.0 o there own)))
+        where
+          told_after : (j : WaitStep) → ((x : Spot) (b : Option Call) → j ≡ Take x b → belongs_at (next_with z k me.0 n found).target (next_with z k me.0 n found).place ≡ belongs_at me.0.target me.0.place) → Tells z j o (belongs_at me.0.target me.0.place) (get_or s.words (word_of z o k) 0) (home_in s.homes (slot_number k)).list.items
+              → Tells z j o (belongs_at (next_with z k me.0 n found).target (next_with z k me.0 n found).place) (get_or s.words (word_of z o k) 0) (home_in s.homes (slot_number k)).list.items
+          told_after (Take x b) same told = λ clear. subst (λ (belongs : Option ℕ). TellsList z o belongs (slot_of x) (home_in s.homes (slot_number k)).list.items) (sym (same x b refl)) (told clear)
+          told_after j same told = tt
 
   -- a step of the client
   pub client_turns : (slots id : ℕ) (me : Me Kept (WaitView C)) (word : ℕ) (op : ClientOp) (then : ℕ → C) (told : ℕ → Type 0) → word ≡ client_base z + op_at op → op_at op < count → (p : ℕ) → me.0.own ≡ Some p → me.0.place ≡ []

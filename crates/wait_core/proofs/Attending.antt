@@ -36,7 +36,7 @@ here_waiting phases v bar f knows waits b ph ne is =
 module _ {C : Type 0} (means : Meanings C) (z : Size) (phase : ℕ) where
   -- the parts of the rule on barriers, and the client's
   pub record Attended (s : WaitState C) : Type 0 where
-    pub left : LeftAreFree (map party_of s.views)
+    pub left : LeftAreFree s.views
     pub barriers : Barriers (map party_of s.views) (phases_in z s)
     pub known : PhasesAreKnown (phases_in z s) (map attendance_of s.views)
     pub waiters : WaitersAreQuiet means (map attendance_of s.views)
@@ -102,7 +102,7 @@ module _ {C : Type 0} (means : Meanings C) (z : Size) (phase : ℕ) where
 
     pub goes : Goes → Attended t
     goes g = record {
-      left = subst LeftAreFree (sym parties) (each_set (λ (x : PartyView C). x.proc ≡ None → IsFree x) (map party_of s.views) id (party_of w) a.left (λ none. absurd (g.numbered (sym g.same_number ∙ none))));
+      left = each_set (λ (x : WaitView C). x.own ≡ None → IsFree x) s.views id w a.left (λ none. absurd (g.numbered (sym g.same_number ∙ none)));
       barriers = subst (λ (x : List (PartyView C) × List ℕ). Barriers x.0 x.1) (λ i. (sym parties i, sym same_phases i)) (barriers_set (map party_of s.views) (phases_in z s) phases_are id (party_of v) (party_of w) (at_map party_of s.views id v at) a.barriers
           (long homes after ∙ sym (long s.homes before)) (λ j u e b ph is. near j u (member j u e) b ph is) (λ b ph is. subst (λ (n : ℕ). b < n) (sym (long s.homes before)) (g.attached_inside b ph is)) (λ j u e b ph is. past j u (member j u e) b ph is) g.wins);
       known = subst (λ (x : List ℕ × List (Attendance C)). PhasesAreKnown x.0 x.1) (λ i. (sym same_phases i, sym seen i)) all_know;

@@ -9,7 +9,6 @@ use Rattle.atomic_table.specs.Table.{opening}
 use Rattle.wait_core.specs.declared.step.Spot.TheVariants.{Bar}
 use Rattle.wait_core.specs.declared.view.Frame.{Frame}
 use Rattle.wait_core.specs.declared.view.Kept.{Kept}
-use Rattle.wait_core.specs.declared.view.PartyView.{PartyView}
 use Rattle.wait_core.specs.declared.view.Record.{Record}
 use Rattle.wait_core.specs.declared.view.Size.{Size}
 use Rattle.wait_core.specs.declared.view.WaitView.{WaitView}
@@ -25,6 +24,7 @@ use Rattle.wait_core.specs.ArrivalsHeed.{HeedsInArrival}
 use Rattle.wait_core.specs.PassedPhaseIsBroadcast.{dozes}
 use Rattle.wait_core.specs.LeftAreFree.{LeftAreFree}
 use Rattle.wait_core.specs.Barriers.{Attendance, attendance_of, waits_at, asks_at, field_of, phase_in, phases, KnowsPhases, IsWaiter, JobSuits}
+use Rattle.wait_core.specs.OneElected.{outcome_of, elected_in}
 use Rattle.wait_core.specs.Promises.{IsOpening}
 use Rattle.wait_core.specs.Rule.{Rule}
 use Rattle.seat_roster.proofs.Numbers.{roster_first}
@@ -33,6 +33,7 @@ use Rattle.wait_core.proofs.ListsAreMade.{lists_made_open}
 use Rattle.wait_core.proofs.ListsKept.{lists_open}
 use Rattle.wait_core.proofs.Records.{opened_long}
 use Rattle.wait_core.proofs.BarriersKept.{nobody_elected, barriers_more}
+use Rattle.wait_core.proofs.Outcomes.{one_of_none, one_more}
 use Rattle.wait_core.proofs.Untouched.{idle, idle_backend, places_snoc}
 
 first_place : (cvs : ℕ) → PlacesFit cvs (idle (Some 0) ∷ [])
@@ -72,8 +73,8 @@ module _ {C : Type 0} (means : Meanings C) (z : Size) (phase count : ℕ) (f : �
   long : length machine ≡ client_base z
   long = length-set (replicate (client_base z) 0) 0 1 ∙ length-replicate {A = ℕ} (client_base z) 0
 
-  only_numbered : LeftAreFree (newcomer c (Some 0) ∷ [])
-  only_numbered zero v e none = let own = ap (λ (x : PartyView C). x.proc) (maybe.some-injective _ _ e) in absurd (cc)
+  only_numbered : LeftAreFree (fresh c (Some 0) ∷ [])
+  only_numbered zero v e none = let own = ap (λ (x : WaitView C). x.own) (maybe.some-injective _ _ e) in absurd (cc)
   only_numbered (suc i) v e none = absurd (maybe.some-ne-none v (sym e))
 
   nobody : Barriers {C = C} [] (opening_phases z phase)
@@ -122,6 +123,7 @@ module _ {C : Type 0} (means : Meanings C) (z : Size) (phase count : ℕ) (f : �
       past = λ b below. let e = opened_record z phase xs b below new in let p = ap (λ (k : Record). k.elected) e in let q = ap (λ (k : Record). k.phase) e in omega arith;
       known = each_more (λ (u : Attendance C). (b ph : ℕ) → Elected u.party.elections b ph → (b < z.bars) × (ph ≤ field_of (λ r. r.elected) b (map maybe.some xs) (start ∷ []))) [] start (λ i v e. absurd (maybe.some-ne-none v (sym e))) (λ b ph won. absurd (nobody_elected b ph won));
     };
+    one_elected = one_more z.bars phase (λ b. phase) (λ b. elected_in b (map maybe.some xs) (start ∷ [])) [] (outcome_of (fresh c (Some 0))) (one_of_none z.bars phase) (λ b ph e. absurd (cc)) refl refl (λ b below. let e = opened_record z phase xs b below new in let p = ap (λ (k : Record). k.elected) e in omega arith);
     inside = λ b below. let e = opened_record z phase xs b below new in let p = ap (λ (k : Record). k.phase) e in (omega arith, omega arith);
     suits = each_more (λ (u : Attendance C). JobSuits means (asks_at u.place) u.party) [] start (λ i v e. absurd (maybe.some-ne-none v (sym e))) tt;
     client = subst (λ (x : List ℕ × List ℕ). means.holds x.0 (newcomer c (Some 0) ∷ []) x.1) (λ i. (sym ((λ i. drop (sym long i) (machine ++ opened f count)) ∙ drop-append_seam machine (opened f count)) i, sym stay i)) kept;

@@ -1,5 +1,5 @@
 -- A phase that has passed is broadcast to whoever sleeps through it: each step keeps it, and so do the moves of seats.
-use Rattle.std.proofs.Common.{◌≡◌, ◌≢◌, ◌⊎◌, ℕ, suc, ◌+◌, ◌<◌, ◌≤◌, eqb, Bool, true, false, cond, List, [], ◌∷◌, ◌++◌, map, length, get_or, set, Option, None, Some, refl, sym, ap, ◌∙◌, subst, ⊎_elim, inl, inr, arith, eqb-true}
+use Rattle.std.proofs.Common.{◌≡◌, ◌≢◌, ◌⊎◌, ℕ, suc, ◌+◌, ◌<◌, ◌≤◌, eqb, Bool, true, false, cond, List, [], ◌∷◌, ◌++◌, map, length, get_or, set, Option, None, Some, refl, sym, ap, ◌∙◌, subst, ⊎_elim, inl, inr, arith}
 use Rattle.std.proofs.lemmas.Bool.{eqb-false}
 use mathlib.Core.List.{map-append}
 use mathlib.Core.Logic.{dite}
@@ -7,27 +7,26 @@ use mathlib.Core.Option as maybe
 use native.Mathlib.Decide.{ℕ_discrete}
 use lib.ListN.{get_elem?}
 use lib.Seq.{map-set}
-use Rattle.atomic_table.specs.Table.{homes_after, keeps, takes, stepped}
+use Rattle.atomic_table.specs.Table.{stepped}
 use Rattle.atomic_table.proofs.Lists.{at_map, at_set, at_snoc, at_longer, set_else}
 use Rattle.wait_core.specs.declared.step.Spot.{Spot}
 use Rattle.wait_core.specs.declared.step.Spot.TheVariants.{Cv, Bar}
 use Rattle.wait_core.specs.declared.step.WaitStep.{WaitStep}
 use Rattle.wait_core.specs.declared.step.WaitStep.TheVariants.{Take, Free}
-use Rattle.wait_core.specs.declared.view.Frame.TheVariants.{Taking, Holding, Dozing, Passing, Returning}
+use Rattle.wait_core.specs.declared.view.Frame.TheVariants.{Holding, Dozing, Passing, Returning}
 use Rattle.wait_core.specs.declared.view.Job.{Job}
 use Rattle.wait_core.specs.declared.view.Job.TheVariants as job
 use Rattle.wait_core.specs.declared.view.Kept.{Kept}
 use Rattle.wait_core.specs.declared.view.Record.{Record}
 use Rattle.wait_core.specs.declared.view.Size.{Size}
 use Rattle.wait_core.specs.declared.view.WaitView.{WaitView}
-use Rattle.seat_roster.specs.Totals.{total}
 use Rattle.seat_roster.specs.Roster.{times, one_if}
 use Rattle.seat_roster.proofs.Numbers.{one_seat}
 use Rattle.seat_roster.proofs.Totals.{total_at, total_two, total_some, total_snoc, set_there}
 use Rattle.wait_core.specs.Words.{most_conditions, slot_of, client_base, slots_in}
 use Rattle.wait_core.specs.Lists.{is_listed, precedes}
 use Rattle.wait_core.specs.Jobs.{spot_of, has_passed, left_list, left_record, rouses, rouses_on, goes_on}
-use Rattle.wait_core.specs.Machine.{WaitState, Place, top, number_of, word_of, becomes, taken, left_at, freed, home_in, slot_number, act_of, carried, home_of, next_with, IsSpot, MayTake, Permits}
+use Rattle.wait_core.specs.Machine.{WaitState, Place, number_of, word_of, becomes, left_at, freed, home_in, slot_number, act_of, carried, home_of, next_with, IsSpot, Permits}
 use Rattle.wait_core.specs.Meanings.{Meanings}
 use Rattle.wait_core.specs.Parties.{phase_of, now}
 use Rattle.wait_core.specs.Seating.{numbers_of, standing_of, party_of}
@@ -40,16 +39,16 @@ use Rattle.wait_core.specs.Rule.{Rule}
 use Rattle.wait_core.proofs.Effects.{spot_inside}
 use Rattle.wait_core.proofs.Lists.{listed_there, stands_behind}
 use Rattle.wait_core.proofs.Turns.{in_hand, Turn, stays, reaches, resets, takes as takes_list, frees}
-use Rattle.wait_core.proofs.Turning.{enters, view_turns}
+use Rattle.wait_core.proofs.Turning.{view_turns}
 use Rattle.wait_core.proofs.Owning.{amount_same, amount_out, amount_sent, amount_apart, amount_held, Alone, alone_stances, own_counts, counts_most}
 use Rattle.wait_core.proofs.SpinInOneHand.{Hands, SpinsAreFlags, one_hand, home_out, sends_hand}
 use Rattle.wait_core.proofs.TargetsAreListed.{sends_listed}
 use Rattle.wait_core.proofs.Sentinel.{Goes, broadcast_goes, rebroadcast_goes, order_turn}
 use Rattle.wait_core.proofs.Hands.{hand_follows, taking_free, IsNoFree, waits_stay, IsOfList, list_waits}
 use Rattle.wait_core.proofs.Attachments.{waited, same_waited}
-use Rattle.wait_core.proofs.Records.{ReadsNothing, slot_held, opened_at, opened_same, held_none, field_same, field_out, field_sent, field_apart, field_held}
-use Rattle.wait_core.proofs.ListsKept.{lists_found}
-use Rattle.wait_core.proofs.Arriving.{wide, spins, few_held, phase_seen, phases_long, apart_free}
+use Rattle.wait_core.proofs.Records.{ReadsNothing, opened_at, opened_same, field_same}
+use Rattle.wait_core.proofs.RecordsKept.{apart_free, wide, spins, records_stay, found_reads, left_reads, others_read}
+use Rattle.wait_core.proofs.Arriving.{phase_seen, phases_long}
 use Rattle.wait_core.proofs.Dozing.{Course, course, Ends, GoesOn, course_follows, freed_dozes, passer_frees, rouses_passed, rouses_on_passed, phase_passes}
 
 -- MOVES. Seats in calls stand as they did, and lists and phases read the same
@@ -376,31 +375,6 @@ module _ {C : Type 0} (means : Meanings C) (z : Size) (phase count : ℕ) (s : W
         let mine = own_counts seats alone id o (stance_of v) (stance_of v) there own refl (λ (u : Stance). u.belongs) b in
         let nowhere : is_just b (stance_of v).belongs ≡ 0 = (λ i. is_just b (target_or (ends.1 i) (ends.2 i))) in omega arith
 
-    -- each record reads as it did
-    field_unfreed : (b : ℕ) → slot_in (hand_at after.place) ≡ None → field_of (λ y. y.phase) b s.homes (set attends id (attendance_of after)) ≡ phase_was b
-    field_unfreed b free' = field_same s.homes attends id (attendance_of v) (attendance_of after) attending (λ y. y.phase) b (held_none (λ y. y.phase) (slot_of (Bar b)) after.place free' ∙ sym (held_none (λ y. y.phase) (slot_of (Bar b)) v.place (ap slot_in free)))
-
-  -- a spin word is taken, or found taken
-  took_phase : (x : Spot) (j : Job) (q : Place) (kept : Kept) (clear : Bool) (u : WaitView C) (c : List (ℕ × Kept)) (b : ℕ) → slot_in (hand_at v.place) ≡ None → spot_of j ≡ x → (clear ≡ true → get_elem? s.homes (slot_of x) ≡ maybe.some (maybe.some kept)) → u.place ≡ taken clear kept (Taking j ∷ q)
-      → field_of (λ y. y.phase) b (homes_after s.homes c (cond clear (takes (slot_of x) kept) keeps)) (set attends id (attendance_of u)) ≡ phase_was b
-  took_phase x j q kept true u c b free is home place = subst (λ (y : Spot). field_of (λ y. y.phase) b (set s.homes (slot_of y) maybe.none) (set attends id (attendance_of u)) ≡ phase_was b) is
-      (field_out s.homes attends id (attendance_of v) (attendance_of u) attending (λ y. y.phase) b refl kept j kept.list.items q (ap (λ (y : Spot). get_elem? s.homes (slot_of y)) is ∙ home refl) free place)
-  took_phase x j q kept false u c b free is home place = field_same s.homes attends id (attendance_of v) (attendance_of u) attending (λ y. y.phase) b (ap (held_field (λ y. y.phase) (slot_of (Bar b))) place ∙ sym (held_none (λ y. y.phase) (slot_of (Bar b)) v.place free))
-
-  took_within : (x : Spot) (p : Place) (kept : Kept) (clear : Bool) (u : WaitView C) (c : List (ℕ × Kept)) (b : ℕ) → v.place ≡ p → MayTake x (top p) → slot_in (hand_at v.place) ≡ None → (clear ≡ true → get_elem? s.homes (slot_of x) ≡ maybe.some (maybe.some kept)) → u.place ≡ taken clear kept p
-      → field_of (λ y. y.phase) b (homes_after s.homes c (cond clear (takes (slot_of x) kept) keeps)) (set attends id (attendance_of u)) ≡ phase_was b
-  took_within x (Taking j ∷ q) kept clear u c b is may idle home place = took_phase x j q kept clear u c b idle may home place
-  took_within x p kept clear u c b is may idle home place = absurd may
-
-  phase_unfreed : (k : WaitStep) (ok : Permits z k (Some o) v.target v.place) (small : get_or s.words (word_of z o k) 0 ≤ 1) → IsNoFree k → (b : ℕ) → field_of (λ y. y.phase) b (state k ok small).homes (set attends id (attendance_of (next k ok small))) ≡ phase_was b
-  phase_unfreed (Take x (Some c)) ok small none b = let e = enters z.cvs v.own v.target v.heeds c x v.place ok.1 ok.3 fits in
-      took_phase x e.0 e.1 (taken_out (Take x (Some c)) ok small) (eqb (word (Take x (Some c)) ok small) 0) (next (Take x (Some c)) ok small) (carried (Take x (Some c)) o v.place) b (taking_free z v.target x (Some c) (Some o) v.place ok) e.3
-      (λ clear. lists_found z r.sized.cvs (get_or s.words 0 0) s.words s.homes s.views many r.flags r.roster r.lists id v at o (Take x (Some c)) ok (eqb-true _ 0 clear)) (ap (taken (eqb (word (Take x (Some c)) ok small) 0) (taken_out (Take x (Some c)) ok small)) e.2)
-  phase_unfreed (Take x None) ok small none b = took_within x v.place (taken_out (Take x None) ok small) (eqb (word (Take x None) ok small) 0) (next (Take x None) ok small) (carried (Take x None) o v.place) b refl ok.1 (taking_free z v.target x None (Some o) v.place ok)
-      (λ clear. lists_found z r.sized.cvs (get_or s.words 0 0) s.words s.homes s.views many r.flags r.roster r.lists id v at o (Take x None) ok (eqb-true _ 0 clear)) refl
-  phase_unfreed (Free x a) ok small none b = absurd none
-  phase_unfreed k ok small none b = field_unfreed k ok small none b (hand_follows z v.target k (Some o) (number_of v.own) (word k ok small) (taken_out k ok small) v.place ok fits ∙ ap slot_in (free k ok small none))
-
   frees_nothing : (k : WaitStep) (ok : Permits z k (Some o) v.target v.place) (small : get_or s.words (word_of z o k) 0 ≤ 1) → IsNoFree k → Owed k ok small
   frees_nothing k ok small none = record {
     slept = λ b ph waits dozing late listed. ⊎_elim
@@ -416,7 +390,7 @@ module _ {C : Type 0} (means : Meanings C) (z : Size) (phase count : ℕ) (s : W
           ⊎_elim (λ (first : has_freed v.place ≡ false). inl (ap (λ (c : Course). c.2) same ∙ first)) (λ behind. inr (still_behind k ok small p o b (λ mine. free k ok small none) listed behind)) reached,
         ))
         (λ (ends : Ends v.target v.place (next k ok small).place). absurd (⊎_elim (λ (first : has_freed v.place ≡ false). let freed = ends.0 in cc) (λ behind. unlisted k ok small none p b (let wide = r.sized.bars in let most = r.sized.cvs in omega arith) ends behind) reached)) (goes k ok small none);
-    passes = λ b inside. inl (ap (field_of (λ y. y.phase) b (state k ok small).homes) (map-set attendance_of s.views id (next k ok small)) ∙ phase_unfreed k ok small none b);
+    passes = λ b inside. inl (ap (field_of (λ y. y.phase) b (state k ok small).homes) (map-set attendance_of s.views id (next k ok small)) ∙ records_stay means z phase count s r id v o at k none ok (λ y. y.phase) refl b);
   }
 
   -- THE FREE OF A SPIN WORD
@@ -456,16 +430,14 @@ module _ {C : Type 0} (means : Meanings C) (z : Size) (phase count : ℕ) (s : W
     attends_then = map-set attendance_of s.views id goes_to
 
     field_found : (f : Record → ℕ) → ReadsNothing f → (b : ℕ) → slot ≡ slot_of (Bar b) → field_of f b s.homes attends ≡ f found
-    field_found f blank b is = field_held f blank s.homes attends id b (attendance_of v) j list found q attending place is (subst (λ (x : ℕ). total (slot_held x) attends ≤ 1) is (few_held means z phase count s r slot low)) (ap (get_elem? s.homes) (sym is) ∙ out)
+    field_found f blank b is = found_reads means z phase count s r id v o at j list found q place low f blank b is
 
     phase_left : (b : ℕ) → slot ≡ slot_of (Bar b) → phase_is step ok small b ≡ (left_record j found).phase
-    phase_left b is =
-        let sent = field_sent s.homes attends id (attendance_of v) (attendance_of goes_to) attending (λ y. y.phase) b refl kept j list found q out place left_free is in
-        let held = field_found (λ y. y.phase) refl b is in let left : kept.record.phase ≡ (left_record j found).phase = ap (λ (p : Place). (left_at o p).record.phase) place in
-        ap (field_of (λ y. y.phase) b (state step ok small).homes) attends_then ∙ omega arith
+    phase_left b is = ap (field_of (λ y. y.phase) b (state step ok small).homes) attends_then
+        ∙ (left_reads means z phase count s r id v o at j list found q place low goes_to left_free kept (λ y. y.phase) refl b is ∙ ap (λ (p : Place). (left_at o p).record.phase) place)
 
     phase_apart : (b : ℕ) → slot ≢ slot_of (Bar b) → phase_is step ok small b ≡ phase_was b
-    phase_apart b ne = ap (field_of (λ y. y.phase) b (state step ok small).homes) attends_then ∙ field_apart s.homes attends id (attendance_of v) (attendance_of goes_to) attending (λ y. y.phase) b refl kept j list found q out place left_free ne
+    phase_apart b ne = ap (field_of (λ y. y.phase) b (state step ok small).homes) attends_then ∙ others_read means z phase count s r id v o at j list found q place low goes_to left_free kept (λ y. y.phase) refl b ne
 
     except_last : (b : ℕ) → j ≡ job.ExceptLast b → (g : ℕ) × (phase_of v.attached b ≡ Some g)
     except_last b is = let suits = subst (λ (x : Option Job). JobSuits means x (party_of v)) (ap asks_at place ∙ ap asked is) (r.suits id (attendance_of v) attending) in (suits.0, suits.1)

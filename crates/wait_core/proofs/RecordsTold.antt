@@ -25,7 +25,8 @@ use Rattle.wait_core.specs.Told.{IsInside, FindsPhase, CountsSeat, TellsRecord, 
 use Rattle.wait_core.proofs.Records.{field_home}
 use Rattle.wait_core.proofs.Attending.{here_idle}
 use Rattle.wait_core.proofs.Passing.{waits_less}
-use Rattle.wait_core.proofs.Arriving.{few_views, phase_seen, held_once}
+use Rattle.wait_core.proofs.Arriving.{few_views, phase_seen}
+use Rattle.wait_core.proofs.RecordsKept.{held_once}
 
 part_most : {C : Type 0} (b : ℕ) (v : Attendance C) → takes_part b v ≤ 1
 part_most b v = by_known (phase_of v.party.attached b)
@@ -78,16 +79,22 @@ module _ {C : Type 0} (means : Meanings C) (z : Size) (phase count : ℕ) (s : W
         by_known None is w waits some gap all counted few = let none : takes_part b (attendance_of v) ≡ 0 = ap one_if is in omega arith
         by_known (Some ph) is w waits some gap all counted few = let one : takes_part b (attendance_of v) ≡ 1 = ap one_if is in (omega arith, finds w waits ph is)
 
-  tells_record : (id : ℕ) (v : WaitView C) → get_elem? s.views id ≡ maybe.some v → (x : Spot) → IsSpot z x → get_or s.words (spin_at z (slot_of x)) 0 ≡ 0 → TellsRecord means z phase count x id v.place (party_of v) (home_in s.homes (slot_of x)).record
+  tells_record : (id : ℕ) (v : WaitView C) → get_elem? s.views id ≡ maybe.some v → (x : Spot) → IsSpot z x → get_or s.words (spin_at z (slot_of x)) 0 ≡ 0 → TellsRecord means z phase count x id (waits_at v.place) (party_of v) (home_in s.homes (slot_of x)).record
   tells_record id v at (Cv c) below clear = tt
   tells_record id v at (Bar b) below clear = (
     let wide = r.sized.bars in omega arith,
     inside b below clear,
     counts_seat b below clear id v at,
-    record { state = s; rule = r; here = at_map party_of s.views id v at; counted = sym (lies b below clear (λ r. r.participants)) ∙ r.participants b below },
+    record {
+      state = s;
+      rule = r;
+      here = at_map party_of s.views id v at;
+      counted = sym (lies b below clear (λ r. r.participants)) ∙ r.participants b below;
+      waiting = sym (lies b below clear (λ r. r.arrived)) ∙ (r.arrived b below ∙ ap (λ (n : ℕ). total (waits_from b n) seats) (lies b below clear (λ r. r.phase)));
+    },
   )
 
-  pub barrier_tells : (id : ℕ) (v : WaitView C) → get_elem? s.views id ≡ maybe.some v → (o : ℕ) (k : WaitStep) → Permits z k (Some o) v.target v.place → TellsBarrier means z phase count k id v.place (party_of v) (get_or s.words (word_of z o k) 0) (home_in s.homes (slot_number k)).record
+  pub barrier_tells : (id : ℕ) (v : WaitView C) → get_elem? s.views id ≡ maybe.some v → (o : ℕ) (k : WaitStep) → Permits z k (Some o) v.target v.place → TellsBarrier means z phase count k id (waits_at v.place) (party_of v) (get_or s.words (word_of z o k) 0) (home_in s.homes (slot_number k)).record
   barrier_tells id v at o (Take x (Some c)) ok = tells_record id v at x ok.0
   barrier_tells id v at o (Take x None) ok = tells_record id v at x ok.0
   barrier_tells id v at o k ok = tt

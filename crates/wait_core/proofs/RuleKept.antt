@@ -38,6 +38,7 @@ use Rattle.wait_core.proofs.SetLatchWakes.{latch_kept}
 use Rattle.wait_core.proofs.ShutdownWakes.{shutdown_kept}
 use Rattle.wait_core.proofs.WordsAreMade.{made_step}
 use Rattle.wait_core.proofs.Arriving.{Owes, attended_step}
+use Rattle.wait_core.proofs.Electing.{one_elected_step}
 use Rattle.wait_core.specs.ArrivalsHeed.{HeedsInArrival}
 use Rattle.wait_core.proofs.ArrivalsHeed.{heeds_kept}
 use Rattle.wait_core.proofs.PassedPhaseIsBroadcast.{passed_step}
@@ -200,6 +201,7 @@ module _ {C : Type 0} (means : Meanings C) (z : Size) (phase count : ℕ) (s : W
         participants = b.participants;
         arrived = b.arrived;
         elections = b.elections;
+        one_elected = one_elected_step means z phase count s r id v o at own k ok;
         inside = b.inside;
         suits = b.suits;
         client = b.client;

@@ -198,6 +198,19 @@ enters cvs own t h (call.ArriveDetach b) x p at may fits = alone_enters own t h 
 enters cvs own t h (call.ExceptLast b) x p at may fits = alone_enters own t h (job.ExceptLast b) (call.ExceptLast b) x p tt may (cc) refl
 enters cvs own t h c x p at may fits = absurd (cc)
 
+job_belongs : (t : Option ℕ) (clear : Bool) (found : Kept) (j : Job) (q : Place) → belongs_at t (taken clear found (Taking j ∷ q)) ≡ belongs_at t (Taking j ∷ q)
+job_belongs t true found j q = refl
+job_belongs t false found j q = refl
+
+-- where it takes a spin word, whether that was free or not, a seat belongs to the list as before
+pub belongs_follow : (z : Size) (own t : Option ℕ) (x : Spot) (b : Option Call) (o n : ℕ) (found : Kept) (p : Place) → Permits z (Take x b) own t p → Fits z.cvs t p → belongs_at t (place_then z (Take x b) n found record { own = o; target = t; place = p }) ≡ belongs_at t p
+belongs_follow z own t x (Some c) o n found p ok fits = let e = enters z.cvs own t true c x p ok.1 ok.3 fits in ap (λ (q : Place). belongs_at t (taken (eqb n 0) found q)) e.2 ∙ (job_belongs t (eqb n 0) found e.0 e.1 ∙ ap (λ (u : Stance). u.belongs) e.4)
+belongs_follow z own t x None o n found p ok fits = at_job p ok.1
+  where
+    at_job : (p : Place) → MayTake x (top p) → belongs_at t (taken (eqb n 0) found p) ≡ belongs_at t p
+    at_job (Taking j ∷ q) may = job_belongs t (eqb n 0) found j q
+    at_job p may = absurd may
+
 -- THE FREES. The seat left a list
 cancel_ended : (cvs : ℕ) (own t : Option ℕ) (h : Bool) (p : Place) → BehindCancel cvs t p → stance own None h (resumed p) ≡ idle own
 cancel_ended cvs own t h [] fits = λ i. record (idle own) { heeds = no_heeds h i }

@@ -22,6 +22,7 @@ pub mod SignalIsKept
 pub mod ListsAreMade
 pub mod ListsStand
 pub mod LeftAreFree
+pub mod OneElected
 pub mod ArrivalsHeed
 pub mod PassedPhaseIsBroadcast
 pub mod Rule

@@ -18,10 +18,10 @@ use Rattle.wait_core.specs.Words.{last_phase, slot_of}
 use Rattle.seat_roster.specs.Totals.{total}
 use mathlib.Core.Option as maybe
 use lib.ListN.{get_elem?}
-use Rattle.wait_core.specs.Machine.{WaitState, Place, number_of, next_with, act_of}
+use Rattle.wait_core.specs.Machine.{WaitState, number_of, next_with, act_of}
 use Rattle.wait_core.specs.Stances.{slot_in, hand_at, belongs_at}
 use Rattle.wait_core.specs.Seating.{party_of, client_moved, with_drawn}
-use Rattle.wait_core.specs.Barriers.{attendance_of, takes_part, waits_at}
+use Rattle.wait_core.specs.Barriers.{attendance_of, takes_part, waits_from}
 use Rattle.wait_core.specs.Rule.{Rule}
 
 -- On the list of the slot x, which was taken in hand, stand backends of the table alone. The backend `own` is on it once, and only where it belongs there; else there is room for it
@@ -60,22 +60,23 @@ slot_then (Free x target) n out = None
 slot_then k n out = out
 
 module _ {C : Type 0} (means : Meanings C) (z : Size) (phase count : ℕ) where
-  -- in a state that meets the rule the client saw the seat so, and the record counts whoever was attached to the barrier
+  -- in a state that meets the rule the client saw the seat so, and the record counts whoever was attached to the barrier, and whoever waited there for the phase to pass
   pub record CountsAttached (b id : ℕ) (v : PartyView C) (r : Record) : Type 0 where
     pub state : WaitState C
     pub rule : Rule means z phase count state
     pub here : get_elem? (map party_of state.views) id ≡ maybe.some v
     pub counted : r.participants ≡ total (takes_part b) (map attendance_of state.views)
+    pub waiting : r.arrived ≡ total (waits_from b r.phase) (map attendance_of state.views)
 
-  -- of a seat at this place. The barrier has a condition
-  abbrev pub TellsRecord : Spot → ℕ → Place → PartyView C → Record → Type 0
-  TellsRecord (Cv c) id p v r = ⊤
-  TellsRecord (Bar b) id p v r = (b < z.cvs) × IsInside r × CountsSeat (waits_at p) (phase_of v.attached b) r × CountsAttached b id v r
+  -- of a seat that waits there, or nowhere. The barrier has a condition
+  abbrev pub TellsRecord : Spot → ℕ → Option (ℕ × ℕ) → PartyView C → Record → Type 0
+  TellsRecord (Cv c) id waits v r = ⊤
+  TellsRecord (Bar b) id waits v r = (b < z.cvs) × IsInside r × CountsSeat waits (phase_of v.attached b) r × CountsAttached b id v r
 
   -- what a step that found n tells of the record that it took in hand
-  abbrev pub TellsBarrier : WaitStep → ℕ → Place → PartyView C → ℕ → Record → Type 0
-  TellsBarrier (Take x begins) id p v n r = n ≡ 0 → TellsRecord x id p v r
-  TellsBarrier k id p v n r = ⊤
+  abbrev pub TellsBarrier : WaitStep → ℕ → Option (ℕ × ℕ) → PartyView C → ℕ → Record → Type 0
+  TellsBarrier (Take x begins) id waits v n r = n ≡ 0 → TellsRecord x id waits v r
+  TellsBarrier k id waits v n r = ⊤
 
 module _ {C : Type 0} where
   -- the place after the step knows of it
@@ -84,7 +85,7 @@ module _ {C : Type 0} where
 
   -- a step of the machine that found n: the view goes on as the machine says, what a spin word guards leaves its slot or goes home, n was 0 or 1, and the record that was found is told of
   abbrev pub does : Size → (ℕ → Record → Type 0) → WaitStep → Me Kept (WaitView C) → ℕ → Me Kept (WaitView C) → Type 0
-  does z tells k m n m' = (found : Kept) × (m'.0 ≡ next_with z k m.0 n found) × (m'.1 ≡ carried_after m.1 (act_of k n found)) × (n ≤ 1) × Tells z k (number_of m.0.own) (belongs_at m.0.target m.0.place) n found.list.items × tells n found.record × HandFollows z k m.0 n found
+  does z tells k m n m' = (found : Kept) × (m'.0 ≡ next_with z k m.0 n found) × (m'.1 ≡ carried_after m.1 (act_of k n found)) × (n ≤ 1) × Tells z k (number_of m.0.own) (belongs_at m'.0.target m'.0.place) n found.list.items × tells n found.record × HandFollows z k m.0 n found
 
   -- a step of the client, after which its view is c of the word found, and which told something of it
   abbrev pub does_client : (ℕ → C) → (ℕ → Type 0) → Me Kept (WaitView C) → ℕ → Me Kept (WaitView C) → Type 0

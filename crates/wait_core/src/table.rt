@@ -7,7 +7,7 @@ ghost use Rattle.wait_core.specs.Parties.{newcomer};
 ghost use Rattle.wait_core.specs.Places.{is_asleep};
 ghost use Rattle.wait_core.specs.Seating.{party_of, fresh, client_moved, after_draw, stays, took_in};
 ghost use Rattle.wait_core.specs.Told.{Tells, TellsBarrier, Turns, Cuts};
-ghost use Rattle.wait_core.specs.Barriers.{StepSuits};
+ghost use Rattle.wait_core.specs.Barriers.{StepSuits, waits_at};
 ghost use Rattle.wait_core.specs.Stances.{belongs_at};
 ghost use Rattle.wait_core.specs.Sending.{SendsHome, ListAfter, IsTaking, IsFreeing, IsApart};
 ghost use Rattle.wait_core.specs.Closing.{Ends, Stood};
@@ -143,8 +143,8 @@ impl<P: Party> WaitTable<P> {
         ensures hand { ListAfter step result.old seat.old seat.new }
         ensures changed { result.changed ≡ writes step }
         ensures told { result.old ≤ 1 }
-        ensures list { Tells (size_of self.now) step (number_of seat.old.view.own) (belongs_at seat.old.view.target seat.old.view.place) result.old seat.new.list }
-        ensures barrier { TellsBarrier (P.means self.now.party) (size_of self.now) self.now.phase (P.word_count self.now.party) step seat.old.id seat.old.view.place (party_of seat.old.view) result.old seat.new.record }
+        ensures list { Tells (size_of self.now) step (number_of seat.old.view.own) (belongs_at seat.new.view.target seat.new.view.place) result.old seat.new.list }
+        ensures barrier { TellsBarrier (P.means self.now.party) (size_of self.now) self.now.phase (P.word_count self.now.party) step seat.old.id (waits_at seat.old.view.place) (party_of seat.old.view) result.old seat.new.record }
     {
         let changed = step.writes();
         let old = match &step {
@@ -166,8 +166,8 @@ impl<P: Party> WaitTable<P> {
         ensures view { seat.new.view ≡ next_with (size_of self.now) step seat.old.view result (as_kept seat.new.list seat.new.record) }
         ensures hand { ListAfter step result seat.old seat.new }
         ensures told { result ≤ 1 }
-        ensures list { Tells (size_of self.now) step (number_of seat.old.view.own) (belongs_at seat.old.view.target seat.old.view.place) result seat.new.list }
-        ensures barrier { TellsBarrier (P.means self.now.party) (size_of self.now) self.now.phase (P.word_count self.now.party) step seat.old.id seat.old.view.place (party_of seat.old.view) result seat.new.record }
+        ensures list { Tells (size_of self.now) step (number_of seat.old.view.own) (belongs_at seat.new.view.target seat.new.view.place) result seat.new.list }
+        ensures barrier { TellsBarrier (P.means self.now.party) (size_of self.now) self.now.phase (P.word_count self.now.party) step seat.old.id (waits_at seat.old.view.place) (party_of seat.old.view) result seat.new.record }
     {
         let _ = &self.table;
         let slot = step.slot();
@@ -257,8 +257,8 @@ impl<P: Party> WaitTable<P> {
         seat.backoff.snooze();
     }
 
-    /// A seat in no call takes in another, whose number isn't given again. The other's elections and client
-    /// view go to it.
+    /// A seat in no call takes in another, whose number isn't given again. The other's elections, the
+    /// phases that it waited out and its client view go to it.
     pub fn join(&self, into: &mut WaitSeat<P>, from: WaitSeat<P>)
         requires table { (into.old.table_id ≡ self.now.table_id) × (from.table_id ≡ self.now.table_id) }
         requires into { into.old.view.place ≡ [] }

@@ -4,6 +4,7 @@ use Rattle.wait_core.specs.Sending.{SendsHome}
 use Rattle.wait_core.specs.Words.{byte_at, client_base}
 use Rattle.wait_core.specs.Machine.{Allowed, Permits}
 use Rattle.wait_core.specs.Seating.{party_of}
+use Rattle.wait_core.specs.Barriers.{waits_at}
 use Rattle.wait_core.specs.Told.{TellsBarrier}
 use Rattle.wait_core.proofs.Asks.{step_turns}
 use Rattle.wait_core.proofs.RuleKept.{word_below}
@@ -51,7 +52,7 @@ invariant_of-seat g c =
     let u = c.exchange.new.seat in
     let ok = subst (λ v. Allowed z c.args.step v.view) (sym c.seat.view_is) c.requires.place in
     subst (IsSeated c.make-old.new.seat c.seat.inside.number) (sym c.target_then-seat-inside.ensures)
-    (seated_after z (let t = c.args.self.now in TellsBarrier (g.P.Party.means t.party) (size_of t) t.phase (g.P.Party.word_count t.party) c.args.step u.id u.me.0.place (party_of u.me.0)) u c.make-old.new.seat c.seat.inside.number c.seat.inside.target c.args.step c.make-old.result
+    (seated_after z (let t = c.args.self.now in TellsBarrier (g.P.Party.means t.party) (size_of t) t.phase (g.P.Party.word_count t.party) c.args.step u.id (waits_at u.me.0.place) (party_of u.me.0)) u c.make-old.new.seat c.seat.inside.number c.seat.inside.target c.args.step c.make-old.result
     (seated_filled z s _ _ c.args.step _ c.seat.invariant ok c.requires.step c.slot-slot.ensures u _ c.exchange.ensures.0 c.exchange.ensures.3)
     (allowed_still z s _ _ c.args.step _ c.seat.invariant ok c.requires.step c.slot-slot.ensures u _ c.exchange.ensures.0 c.exchange.ensures.3)
     c.make-old.ensures.table.0 c.make-old.ensures.told)

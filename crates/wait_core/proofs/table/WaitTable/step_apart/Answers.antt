@@ -3,6 +3,7 @@ use Rattle.wait_core.specs.Seats.{size_of}
 use Rattle.wait_core.specs.Words.{byte_at, client_base}
 use Rattle.wait_core.specs.Machine.{Allowed, Permits}
 use Rattle.wait_core.specs.Seating.{party_of}
+use Rattle.wait_core.specs.Barriers.{waits_at}
 use Rattle.wait_core.specs.Told.{TellsBarrier}
 use Rattle.wait_core.proofs.Asks.{step_turns}
 use Rattle.wait_core.proofs.RuleKept.{word_below}
@@ -32,5 +33,5 @@ make-old-requires-clause-told g c κs within =
 
 pub invariant_of-seat : goal.invariant_of-seat
 invariant_of-seat g c =
-    seated_apart (size_of c.args.self.now) (let t = c.args.self.now in TellsBarrier (g.P.Party.means t.party) (size_of t) t.phase (g.P.Party.word_count t.party) c.args.step c.seat.inside.seat.id c.seat.inside.seat.me.0.place (party_of c.seat.inside.seat.me.0)) c.seat.inside.seat c.make-old.new.seat _ _ c.args.step c.make-old.result 0 c.seat.invariant (subst (λ v. Allowed (size_of c.args.self.now) c.args.step v.view) (sym c.seat.view_is) c.requires.place)
+    seated_apart (size_of c.args.self.now) (let t = c.args.self.now in TellsBarrier (g.P.Party.means t.party) (size_of t) t.phase (g.P.Party.word_count t.party) c.args.step c.seat.inside.seat.id (waits_at c.seat.inside.seat.me.0.place) (party_of c.seat.inside.seat.me.0)) c.seat.inside.seat c.make-old.new.seat _ _ c.args.step c.make-old.result 0 c.seat.invariant (subst (λ v. Allowed (size_of c.args.self.now) c.args.step v.view) (sym c.seat.view_is) c.requires.place)
     c.make-old.ensures.table.0 c.make-old.ensures.told c.requires.apart

@@ -2,7 +2,7 @@ use Rattle.std.proofs.Common.{arith, rules, ◌<◌, ◌+◌, ℕ, ap, sym, ◌�
 use Rattle.wait_core.specs.Seats.{size_of}
 use Rattle.wait_core.specs.Words.{byte_at, client_base}
 use Rattle.wait_core.specs.Machine.{Allowed, Permits}
-use Rattle.wait_core.specs.Barriers.{StepSuits}
+use Rattle.wait_core.specs.Barriers.{StepSuits, waits_at}
 use Rattle.wait_core.specs.Seating.{party_of}
 use Rattle.wait_core.specs.Told.{TellsBarrier}
 use Rattle.wait_core.proofs.Asks.{step_turns}
@@ -34,16 +34,16 @@ make-old-requires-clause-told g c κs within =
 pub exchange-kept-requires : goal.exchange-kept-requires
 exchange-kept-requires g c = (
   search rules,
-  taken_slot (size_of c.args.self.now) (let t = c.args.self.now in TellsBarrier (g.P.Party.means t.party) (size_of t) t.phase (g.P.Party.word_count t.party) c.args.step c.seat.inside.seat.id c.seat.inside.seat.me.0.place (party_of c.seat.inside.seat.me.0)) c.seat.inside.seat c.make-old.new.seat _ _ c.args.step c.make-old.result _ c.seat.invariant (subst (λ v. Allowed (size_of c.args.self.now) c.args.step v.view) (sym c.seat.view_is) c.requires.place)
+  taken_slot (size_of c.args.self.now) (let t = c.args.self.now in TellsBarrier (g.P.Party.means t.party) (size_of t) t.phase (g.P.Party.word_count t.party) c.args.step c.seat.inside.seat.id (waits_at c.seat.inside.seat.me.0.place) (party_of c.seat.inside.seat.me.0)) c.seat.inside.seat c.make-old.new.seat _ _ c.args.step c.make-old.result _ c.seat.invariant (subst (λ v. Allowed (size_of c.args.self.now) c.args.step v.view) (sym c.seat.view_is) c.requires.place)
       c.make-old.ensures.table.0 c.make-old.ensures.told c.requires.step c.slot-slot.ensures c.if-old-eq0.true,
 )
 
 pub invariant_of-seat : goal.invariant_of-seat
 invariant_of-seat g c =
-    seated_emptied (size_of c.args.self.now) (let t = c.args.self.now in TellsBarrier (g.P.Party.means t.party) (size_of t) t.phase (g.P.Party.word_count t.party) c.args.step c.seat.inside.seat.id c.seat.inside.seat.me.0.place (party_of c.seat.inside.seat.me.0)) c.seat.inside.seat c.make-old.new.seat _ _ c.args.step c.make-old.result _ c.seat.invariant (subst (λ v. Allowed (size_of c.args.self.now) c.args.step v.view) (sym c.seat.view_is) c.requires.place)
+    seated_emptied (size_of c.args.self.now) (let t = c.args.self.now in TellsBarrier (g.P.Party.means t.party) (size_of t) t.phase (g.P.Party.word_count t.party) c.args.step c.seat.inside.seat.id (waits_at c.seat.inside.seat.me.0.place) (party_of c.seat.inside.seat.me.0)) c.seat.inside.seat c.make-old.new.seat _ _ c.args.step c.make-old.result _ c.seat.invariant (subst (λ v. Allowed (size_of c.args.self.now) c.args.step v.view) (sym c.seat.view_is) c.requires.place)
     c.make-old.ensures.table.0 c.make-old.ensures.told c.requires.step c.slot-slot.ensures c.exchange-kept.new.seat c.nothing.result c.if-old-eq0.true c.exchange-kept.ensures.0 c.exchange-kept.ensures.3
 
 pub invariant_of-seat-else-old-eq0 : goal.invariant_of-seat-else-old-eq0
 invariant_of-seat-else-old-eq0 g c =
-    seated_taken (size_of c.args.self.now) (let t = c.args.self.now in TellsBarrier (g.P.Party.means t.party) (size_of t) t.phase (g.P.Party.word_count t.party) c.args.step c.seat.inside.seat.id c.seat.inside.seat.me.0.place (party_of c.seat.inside.seat.me.0)) c.seat.inside.seat c.make-old.new.seat _ _ c.args.step c.make-old.result _ c.seat.invariant (subst (λ v. Allowed (size_of c.args.self.now) c.args.step v.view) (sym c.seat.view_is) c.requires.place)
+    seated_taken (size_of c.args.self.now) (let t = c.args.self.now in TellsBarrier (g.P.Party.means t.party) (size_of t) t.phase (g.P.Party.word_count t.party) c.args.step c.seat.inside.seat.id (waits_at c.seat.inside.seat.me.0.place) (party_of c.seat.inside.seat.me.0)) c.seat.inside.seat c.make-old.new.seat _ _ c.args.step c.make-old.result _ c.seat.invariant (subst (λ v. Allowed (size_of c.args.self.now) c.args.step v.view) (sym c.seat.view_is) c.requires.place)
     c.make-old.ensures.table.0 c.make-old.ensures.told c.requires.step c.slot-slot.ensures
