@@ -16,7 +16,7 @@ use Rattle.wait_core.specs.declared.view.Size.{Size}
 use Rattle.wait_core.specs.declared.view.WaitView.{WaitView}
 use Rattle.std.specs.Prelude.{not}
 use Rattle.seat_roster.specs.Roster.{times}
-use Rattle.wait_core.specs.Jobs.{spot_of, left_list, left_record, attached_after, target_after, heeds_after, elections_after, resumed, goes_on, signals, rouses, rouses_on}
+use Rattle.wait_core.specs.Jobs.{spot_of, left_list, left_record, attached_after, target_after, heeds_after, elections_after, passed_after, resumed, goes_on, signals, rouses, rouses_on}
 use Rattle.wait_core.specs.Lists.{AllBelow, is_empty, is_listed, rest_of}
 use Rattle.wait_core.specs.Machine.{Place, top, outer, number_of, made, made_with, as_kept, left_at, reset, taken, spun, next, next_with, takes_first, spot_for, MayBegin, MayTake, MaySpin, Permits}
 use Rattle.wait_core.specs.Meanings.{Meanings}
@@ -100,18 +100,18 @@ module _ {C : Type 0} (z : Size) (v : WaitView C) (c : ℕ) (j : Job) (at : spot
   own_is : number_of s.view.own ≡ number_of v.own
   own_is = ap (λ (y : WaitView C). number_of y.own) was
 
-  -- a job on a condition leaves the record, the attachments and the elections
-  calm : (r : Record) (l : List (ℕ × ℕ)) → (left_record j r ≡ r) × (attached_after j r l ≡ l) × (elections_after j r l ≡ l)
+  -- a job on a condition leaves the record, the attachments, the elections and the phases that were waited out
+  calm : (r : Record) (l : List (ℕ × ℕ)) → (left_record j r ≡ r) × (attached_after j r l ≡ l) × (elections_after j r l ≡ l) × (passed_after j r l ≡ l)
   calm r l = by_job j at
     where
-      by_job : (i : Job) → spot_of i ≡ Cv c → (left_record i r ≡ r) × (attached_after i r l ≡ l) × (elections_after i r l ≡ l)
+      by_job : (i : Job) → spot_of i ≡ Cv c → (left_record i r ≡ r) × (attached_after i r l ≡ l) × (elections_after i r l ≡ l) × (passed_after i r l ≡ l)
       by_job (job.Attach b) e = absurd (cc)
       by_job (job.Arrive b) e = absurd (cc)
       by_job (job.Notice b ph) e = absurd (cc)
       by_job (job.Detach b) e = absurd (cc)
       by_job (job.ArriveDetach b) e = absurd (cc)
       by_job (job.ExceptLast b) e = absurd (cc)
-      by_job i e = (refl, refl, refl)
+      by_job i e = (refl, refl, refl, refl)
 
   in_hand : u.view ≡ went v (Holding j s.list s.record ∷ outer q) took
   in_hand = ap (λ (y : SeatView C). y.view) changed ∙ (was ∙ ap (λ (y : Place). went v (taken true (as_kept s.list s.record) y) took) (at_job q enters))
@@ -127,8 +127,8 @@ module _ {C : Type 0} (z : Size) (v : WaitView C) (c : ℕ) (j : Job) (at : spot
 
   pub visited : (x : WaitView C) (after : Option ℕ) (n : ℕ) (k : Kept) → x ≡ next_with z (Free (Cv c) after) u.view n k → x ≡ stands v (goes_on j (number_of v.own) s.list s.record (outer q)) after (heeds_after j (number_of v.own) s.list v.heeds) (took ++ made_with (Free (Cv c) after) n (left_list j (number_of v.own) s.list) ∷ [])
   visited x after n k is = is ∙ (ap (λ (y : WaitView C). next_with z (Free (Cv c) after) y n k) in_hand
-      ∙ ap (λ (l : List Made). record v { place = goes_on j (number_of v.own) s.list s.record (outer q); steps = l; target = after; heeds = heeds_after j (number_of v.own) s.list v.heeds; attached = attached_after j s.record v.attached; elections = elections_after j s.record v.elections }) (append_assoc v.steps took (made_with (Free (Cv c) after) n (left_list j (number_of v.own) s.list) ∷ []))
-      ∙ (λ i. record v { place = goes_on j (number_of v.own) s.list s.record (outer q); steps = v.steps ++ (took ++ made_with (Free (Cv c) after) n (left_list j (number_of v.own) s.list) ∷ []); target = after; heeds = heeds_after j (number_of v.own) s.list v.heeds; attached = (calm s.record v.attached).1 i; elections = (calm s.record v.elections).2 i }))
+      ∙ ap (λ (l : List Made). record v { place = goes_on j (number_of v.own) s.list s.record (outer q); steps = l; target = after; heeds = heeds_after j (number_of v.own) s.list v.heeds; attached = attached_after j s.record v.attached; elections = elections_after j s.record v.elections; passed = passed_after j s.record v.passed }) (append_assoc v.steps took (made_with (Free (Cv c) after) n (left_list j (number_of v.own) s.list) ∷ []))
+      ∙ (λ i. record v { place = goes_on j (number_of v.own) s.list s.record (outer q); steps = v.steps ++ (took ++ made_with (Free (Cv c) after) n (left_list j (number_of v.own) s.list) ∷ []); target = after; heeds = heeds_after j (number_of v.own) s.list v.heeds; attached = (calm s.record v.attached).1 i; elections = (calm s.record v.elections).2 i; passed = (calm s.record v.passed).3 i }))
 
 -- WHO IS WOKEN
 pub all_wide : (n m : ℕ) (l : List ℕ) → n ≤ m → AllBelow n l → AllBelow m l

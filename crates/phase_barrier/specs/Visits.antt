@@ -11,7 +11,7 @@ use Rattle.wait_core.specs.declared.view.Made.{Made}
 use Rattle.wait_core.specs.declared.view.Record.{Record}
 use Rattle.wait_core.specs.declared.view.WaitView.{WaitView}
 use Rattle.wait_core.specs.Words.{last_phase}
-use Rattle.wait_core.specs.Jobs.{attached_after, elections_after, goes_on}
+use Rattle.wait_core.specs.Jobs.{attached_after, elections_after, passed_after, goes_on}
 use Rattle.wait_core.specs.Machine.{Place, made_with, number_of}
 use Rattle.wait_core.specs.Parties.{phase_of}
 use Rattle.condition_variable.specs.Visits.{Takes}
@@ -63,4 +63,4 @@ pub record Visits (b : ℕ) (begins : Option Call) (target : Option ℕ) (more :
 
 -- the view of a seat after more steps, which took the record for the job j, and found it so: it goes on as that job says, and nothing else changed
 abbrev pub visited : {C : Type 0} → Job → Record → WaitView C → List Made → WaitView C
-visited j found v more = record v { place = goes_on j (number_of v.own) [] found []; steps = v.steps ++ more; attached = attached_after j found v.attached; elections = elections_after j found v.elections }
+visited j found v more = record v { place = goes_on j (number_of v.own) [] found []; steps = v.steps ++ more; attached = attached_after j found v.attached; elections = elections_after j found v.elections; passed = passed_after j found v.passed }

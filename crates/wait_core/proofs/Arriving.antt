@@ -7,14 +7,13 @@ use mathlib.Core.Logic.{dite}
 use mathlib.Core.Option as maybe
 use native.Mathlib.Decide.{ℕ_discrete}
 use lib.ListN.{get_elem?}
-use Rattle.atomic_table.specs.Table.{homes_after, keeps, takes, stepped}
+use Rattle.atomic_table.specs.Table.{stepped}
 use Rattle.atomic_table.proofs.Lists.{at_map, at_set}
 use Rattle.wait_core.specs.declared.step.Spot.{Spot}
-use Rattle.wait_core.specs.declared.step.Spot.TheVariants.{Cv, Bar}
-use Rattle.wait_core.specs.declared.step.Call.{Call}
+use Rattle.wait_core.specs.declared.step.Spot.TheVariants.{Bar}
 use Rattle.wait_core.specs.declared.step.WaitStep.{WaitStep}
-use Rattle.wait_core.specs.declared.step.WaitStep.TheVariants.{Sload, Sset, Reset, Mstore, Mload, Byte, Look, Drain, Shload, Shstore, Take, Spin, Free}
-use Rattle.wait_core.specs.declared.view.Frame.TheVariants.{Taking, Holding, Settling, Dozing, Passing, Returning}
+use Rattle.wait_core.specs.declared.step.WaitStep.TheVariants.{Take, Free}
+use Rattle.wait_core.specs.declared.view.Frame.TheVariants.{Holding, Settling, Dozing, Passing, Returning}
 use Rattle.wait_core.specs.declared.view.Job.{Job}
 use Rattle.wait_core.specs.declared.view.Job.TheVariants as job
 use Rattle.wait_core.specs.declared.view.Kept.{Kept}
@@ -26,26 +25,23 @@ use Rattle.seat_roster.specs.Totals.{total}
 use Rattle.seat_roster.specs.Roster.{one_if}
 use Rattle.seat_roster.proofs.Totals.{total_set, total_at, total_map, total_none, total_some}
 use Rattle.seat_roster.proofs.Stretches.{from_seen, each_set}
-use Rattle.wait_core.specs.Words.{last_phase, slot_of, slots_in, spin_at, client_base, client_words}
+use Rattle.wait_core.specs.Words.{last_phase, slot_of, slots_in, client_base, client_words}
 use Rattle.wait_core.specs.Jobs.{spot_of, is_worn, is_last, is_only, is_awaited, has_passed, departed, left_record, away_from, at_phase, attached_after, elections_after, passes_on, resumed, goes_on}
-use Rattle.wait_core.specs.Machine.{WaitState, Place, top, taken, number_of, word_of, becomes, left_at, freed, home_in, home_of, slot_number, act_of, carried, freed_attached, freed_elections, attached_then, elections_then, next_with, IsSpot, MayFree, MayTake, Permits}
+use Rattle.wait_core.specs.Machine.{WaitState, Place, top, number_of, word_of, becomes, left_at, freed, home_in, slot_number, act_of, carried, freed_attached, freed_elections, attached_then, elections_then, next_with, MayFree, Permits}
 use Rattle.wait_core.specs.Meanings.{Meanings}
 use Rattle.wait_core.specs.Parties.{phase_of, now, Elected, elected, Reattached, Barriers, Here, HereBut, IsEnter, IsNotice, IsElection, IsPass, IsLeave}
 use Rattle.wait_core.specs.Seating.{numbers_of, standing_of, party_of}
 use Rattle.wait_core.specs.Fits.{JobFits, Fits}
-use Rattle.wait_core.specs.Stances.{Homes, hand_at, slot_in, stance_of, has_list}
-use Rattle.wait_core.specs.Barriers.{Attendance, attendance_of, noticing, waits_at, asked, asks_at, asks_then, held_field, field_of, phase_in, phases, phases_in, takes_part, waits_from, KnowsPhases, IsWaiter, IsDone, LetsPass, LetsLeave, LetsBoth, JobSuits, StepSuits}
+use Rattle.wait_core.specs.Stances.{Homes, hand_at, slot_in}
+use Rattle.wait_core.specs.Barriers.{Attendance, attendance_of, noticing, waits_at, asked, asks_at, asks_then, field_of, phase_in, phases_in, takes_part, waits_from, IsWaiter, IsDone, LetsPass, JobSuits, StepSuits}
 use Rattle.wait_core.specs.Rule.{Rule}
-use Rattle.wait_core.specs.Told.{slot_then}
-use Rattle.wait_core.specs.Sending.{IsApart}
 use Rattle.wait_core.proofs.Effects.{spot_inside}
-use Rattle.wait_core.proofs.Turning.{enters}
-use Rattle.wait_core.proofs.SpinInOneHand.{SpinsAreFlags, one_hand, home_out}
-use Rattle.wait_core.proofs.Hands.{hand_follows, asks_follows, taking_free, IsNoFree, waits_stay, IsOfList, list_waits}
-use Rattle.wait_core.proofs.Attachments.{attached_here, attached_else, away_here, away_else, moved_else, attached_after as is_attached, moved_after, away_after, some_is, none_isnt, waited, same_waited, none_waited, waits_none, waits_here, waits_else, waits_before, waiting_is}
+use Rattle.wait_core.proofs.Hands.{hand_follows, asks_follows, IsNoFree, waits_stay, IsOfList, list_waits}
+use Rattle.wait_core.proofs.Attachments.{attached_here, attached_else, away_here, away_else, moved_else, attached_after as is_attached, moved_after, away_after, some_is, none_isnt, waited, same_waited, none_waited, waits_none, waits_here, waits_before, waiting_is}
 use Rattle.wait_core.proofs.BarriersKept.{elected_more, IsNew, Wins, barriers_set, barriers_passed}
-use Rattle.wait_core.proofs.Records.{ReadsNothing, slot_held, opened_long, opened_at, opened_same, opened_set, held_none, field_same, field_out, field_sent, field_apart, field_held, field_home}
-use Rattle.wait_core.proofs.Attending.{here_idle, here_waiting, Attended, before, after, there, field_was, field_is, phases_are, Goes, goes, PhasesStay, phases_stay, others_know, still_inside, was_won, was_inside, same_part, same_waits, RecordsStay, unmoved}
+use Rattle.wait_core.proofs.RecordsKept.{homes_then, records_stay, found_reads, left_reads, others_read}
+use Rattle.wait_core.proofs.Records.{ReadsNothing, opened_long, opened_at, opened_set}
+use Rattle.wait_core.proofs.Attending.{here_idle, here_waiting, Attended, there, phases_are, goes, phases_stay, same_part, same_waits, unmoved}
 use Rattle.wait_core.proofs.Passing.{arrived_less, others_wait, all_quiet, some_waits}
 
 module _ {C : Type 0} (means : Meanings C) where
@@ -57,54 +53,10 @@ module _ {C : Type 0} (means : Meanings C) where
     pub pass : (words : List ℕ) (views : List (PartyView C)) (phases : List ℕ) (bar id : ℕ) (v : PartyView C) → means.holds words views phases → IsPass means.quiet views phases bar id v → means.passes bar (now phases bar) → means.holds words views (set phases bar (suc (now phases bar)))
     pub leave : (words : List ℕ) (views : List (PartyView C)) (phases : List ℕ) (id : ℕ) (v w : PartyView C) (bar ph : ℕ) → means.holds words views phases → IsLeave means.stays views phases id v w bar ph → means.quiet v bar ph → means.holds words (set views id w) phases
 
--- a step that takes and frees no spin word
-apart_homes : (k : WaitStep) → IsApart k → (homes : Homes) (c : List (ℕ × Kept)) (n : ℕ) (found : Kept) → homes_after homes c (act_of k n found) ≡ homes
-apart_homes (Take x b) apart homes c n found = absurd apart
-apart_homes (Free x target) apart homes c n found = absurd apart
-apart_homes k apart homes c n found = refl
-
-apart_party : {C : Type 0} (k : WaitStep) → IsApart k → (p : Place) (v : PartyView C) → record v { attached = attached_then k p v.attached; elections = elections_then k p v.elections } ≡ v
-apart_party (Free x target) apart p v = absurd apart
-apart_party k apart p v = refl
-
-apart_slot : (k : WaitStep) → IsApart k → (n : ℕ) (o : Option ℕ) → slot_then k n o ≡ o
-apart_slot (Take x b) apart n o = absurd apart
-apart_slot (Free x target) apart n o = absurd apart
-apart_slot k apart n o = refl
-
-apart_asks : (k : WaitStep) → IsApart k → (p : Place) → asks_then k p ≡ asks_at p
-apart_asks (Take x b) apart p = absurd apart
-apart_asks (Free x target) apart p = absurd apart
-apart_asks k apart p = refl
-
-apart_frees : (k : WaitStep) → IsApart k → IsNoFree k
-apart_frees (Take x b) apart = absurd apart
-apart_frees (Free x target) apart = absurd apart
-apart_frees k apart = tt
-
--- is made with nothing in hand
-apart_free : (z : Size) (k : WaitStep) (own t : Option ℕ) (p : Place) → IsApart k → Permits z k own t p → slot_in (hand_at p) ≡ None
-apart_free z k own t (Holding j list found ∷ p) apart ok = absurd (by_kind k apart ok)
-  where
-    by_kind : (k : WaitStep) → IsApart k → Permits z k own t (Holding j list found ∷ p) → ⊥
-    by_kind (Sload q (Some c)) apart ok = ok.1
-    by_kind (Sload q None) apart ok = ok.1
-    by_kind (Sset q) apart ok = let e = ok.1 in cc
-    by_kind (Reset (Some c)) apart ok = ok.1
-    by_kind (Reset None) apart ok = ok
-    by_kind (Mstore true) apart ok = ok
-    by_kind (Mstore false) apart ok = ok
-    by_kind (Mload q) apart ok = let e = ok.1 in cc
-    by_kind (Byte q) apart ok = ok.1
-    by_kind Look apart ok = ok
-    by_kind Drain apart ok = ok
-    by_kind (Shload (Some c)) apart ok = ok.1
-    by_kind (Shload None) apart ok = cc
-    by_kind (Shstore b) apart ok = ok.1
-    by_kind (Spin x) apart ok = ok.1
-    by_kind (Take x b) apart ok = apart
-    by_kind (Free x target) apart ok = apart
-apart_free z k own t p apart ok = refl
+-- a step that frees nothing leaves what the client sees of its seat
+no_free_party : {C : Type 0} (k : WaitStep) → IsNoFree k → (p : Place) (v : PartyView C) → record v { attached = attached_then k p v.attached; elections = elections_then k p v.elections } ≡ v
+no_free_party (Free x target) none p v = absurd none
+no_free_party k none p v = refl
 
 -- a list's member is replaced twice
 set_twice : {A : Type 0} (l : List A) (i : ℕ) (v w : A) → set (set l i v) i w ≡ set l i w
@@ -120,19 +72,6 @@ module _ {C : Type 0} (means : Meanings C) (z : Size) (phase count : ℕ) (s : W
   -- there are at most as many views as numbers
   pub few_views : length (map party_of s.views) ≤ 64
   few_views = let a = r.counted in let b = r.roster.few in let c = r.sized.procs in let x = length-map s.views numbers_of in let y = length-map s.views party_of in omega arith
-
-  pub wide : client_base z ≤ length s.words
-  wide = let long = r.sized.long in omega arith
-
-  pub spins : SpinsAreFlags z s.words
-  spins x below = r.flags (spin_at z x) (omega arith) (omega arith)
-
-  -- a slot is out with one seat at most, counted as the parts on barriers see the seats
-  pub held_once : (x : ℕ) → total (slot_held x) (map attendance_of s.views) ≡ total (has_list x) (map stance_of s.views)
-  held_once x = total_map (slot_held x) attendance_of s.views ∙ sym (total_map (has_list x) stance_of s.views)
-
-  pub few_held : (x : ℕ) → x < slots_in z → total (slot_held x) (map attendance_of s.views) ≤ 1
-  few_held x below = let one = one_hand z s.words s.homes (map stance_of s.views) wide spins r.lists.hands x below in let same = held_once x in omega arith
 
   -- the phase that the client's law sees is that of the record
   pub phase_seen : (b : ℕ) → b < z.bars → now (phases_in z s) b ≡ phase_in b s.homes (map attendance_of s.views)
@@ -177,46 +116,11 @@ module _ {C : Type 0} (means : Meanings C) (z : Size) (phase count : ℕ) (s : W
     goes_waits : (k : WaitStep) → IsNoFree k → Permits z k (Some o) v.target v.place → waits_at (goes_on_as k).place ≡ waits_at v.place
     goes_waits k none ok = waits_stay z v.target k (Some o) (number_of v.own) (get_or s.words (word_of z o k) 0) (home_in s.homes (slot_number k)) v.place none ok
 
-    -- A step apart
-    stays_apart : (k : WaitStep) → IsApart k → word_of z o k < client_base z → Permits z k (Some o) v.target v.place → StillAttended k
-    stays_apart k apart inside ok =
-        let i : ℕ = word_of z o k in let n : ℕ = get_or s.words i 0 in let found : Kept = home_in s.homes (slot_number k) in let w : WaitView C = goes_on_as k in
-        let none = apart_free z k (Some o) v.target v.place apart ok in
-        let none' = hand_follows z v.target k (Some o) (number_of v.own) n found v.place ok fits ∙ (apart_slot k apart n (slot_in (hand_at v.place)) ∙ none) in
-        subst (λ (h : Homes). Attended means z phase record { words = set s.words i (becomes k n); homes = h; views = set s.views id w }) (sym (apart_homes k apart s.homes (carried k o v.place) n found))
-        (unmoved means z phase s attended id v w at (set s.words i (becomes k n)) s.homes numbered
-        (λ f blank b below. field_same s.homes seats id (attendance_of v) (attendance_of w) seat f b (held_none _ _ w.place none' ∙ sym (held_none _ _ v.place none)))
-        (same_words i (becomes k n) inside) (apart_party k apart v.place (party_of v)) (goes_waits k (apart_frees k apart) ok)
-        (goes_suits k ok (subst (λ (j : Option Job). JobSuits means j (party_of v)) (sym (apart_asks k apart v.place)) (r.suits id (attendance_of v) seat))))
-
-    -- A spin word is taken, or found taken
-    took : (w : WaitView C) (x : Spot) (j : Job) (q : Place) (k : Kept) (clear : Bool) (words : List ℕ) → spot_of j ≡ x → party_of w ≡ party_of v → w.place ≡ taken clear k (Taking j ∷ q) → waits_at w.place ≡ waits_at v.place
-        → (clear ≡ true → get_elem? s.homes (slot_of x) ≡ maybe.some (maybe.some k)) → slot_in (hand_at v.place) ≡ None → JobSuits means (asks_at w.place) (party_of v) → client_words z words ≡ client_words z s.words → (c : List (ℕ × Kept))
-        → Attended means z phase record { words = words; homes = homes_after s.homes c (cond clear (takes (slot_of x) k) keeps); views = set s.views id w }
-    took w x j q k true words is party place waits home free suits same c = subst (λ (y : Spot). Attended means z phase record { words = words; homes = set s.homes (slot_of y) maybe.none; views = set s.views id w }) is
-        (unmoved means z phase s attended id v w at words (set s.homes (slot_of (spot_of j)) maybe.none) numbered
-        (λ f blank b below. field_out s.homes seats id (attendance_of v) (attendance_of w) seat f b blank k j k.list.items q home' free place) same party waits suits)
-      where
-        home' : get_elem? s.homes (slot_of (spot_of j)) ≡ maybe.some (maybe.some k)
-        home' = ap (λ (y : Spot). get_elem? s.homes (slot_of y)) is ∙ home refl
-    took w x j q k false words is party place waits home free suits same c = unmoved means z phase s attended id v w at words s.homes numbered
-        (λ f blank b below. field_same s.homes seats id (attendance_of v) (attendance_of w) seat f b (ap (held_field f (slot_of (Bar b))) place ∙ sym (held_none _ _ v.place free))) same party waits suits
-
-    -- what a slot keeps, where its word is 0
-    at_home : (x : Spot) → slot_of x < slots_in z → eqb (get_or s.words (spin_at z (slot_of x)) 0) 0 ≡ true → get_elem? s.homes (slot_of x) ≡ maybe.some (maybe.some (home_in s.homes (slot_of x)))
-    at_home x inside clear = let there = (r.lists.hands (slot_of x) inside).at_home (eqb-true _ 0 clear) in there.1 ∙ ap (λ (k : Kept). maybe.some (maybe.some k)) (sym (ap home_of there.1))
-
-    took_within : (x : Spot) (p : Place) → v.place ≡ p → slot_of x < slots_in z → MayTake x (top p) → slot_in (hand_at v.place) ≡ None → Permits z (Take x None) (Some o) v.target v.place → word_of z o (Take x None) < client_base z → StillAttended (Take x None)
-    took_within x (Taking j ∷ p) is low ok free permits inside = let n : ℕ = get_or s.words (spin_at z (slot_of x)) 0 in let found : Kept = home_in s.homes (slot_of x) in
-        took (goes_on_as (Take x None)) x j p found (eqb n 0) (set s.words (spin_at z (slot_of x)) 1) ok refl (ap (taken (eqb n 0) found) is) (goes_waits (Take x None) tt permits) (at_home x low) free
-        (goes_suits (Take x None) permits (r.suits id (attendance_of v) seat)) (same_words _ 1 inside) (carried (Take x None) o v.place)
-    took_within x p is low ok free permits inside = absurd ok
-
-    took_first : (x : Spot) (c : Call) → Permits z (Take x (Some c)) (Some o) v.target v.place → StepSuits means (Take x (Some c)) v → slot_in (hand_at v.place) ≡ None → word_of z o (Take x (Some c)) < client_base z → StillAttended (Take x (Some c))
-    took_first x c ok suits free inside = let n : ℕ = get_or s.words (spin_at z (slot_of x)) 0 in let found : Kept = home_in s.homes (slot_of x) in
-        let e = enters z.cvs v.own v.target v.heeds c x v.place ok.1 ok.3 fits in
-        took (goes_on_as (Take x (Some c))) x e.0 e.1 found (eqb n 0) (set s.words (spin_at z (slot_of x)) 1) e.3 refl (ap (taken (eqb n 0) found) e.2) (goes_waits (Take x (Some c)) tt ok) (at_home x (spot_inside z x r.sized.cvs ok.0)) free
-        (goes_suits (Take x (Some c)) ok suits) (same_words _ 1 inside) (carried (Take x (Some c)) o v.place)
+    -- A step that frees nothing
+    stays : (k : WaitStep) → IsNoFree k → word_of z o k < client_base z → Permits z k (Some o) v.target v.place → JobSuits means (asks_then k v.place) (party_of v) → StillAttended k
+    stays k none inside ok suits = let i : ℕ = word_of z o k in let n : ℕ = get_or s.words i 0 in
+        unmoved means z phase s attended id v (goes_on_as k) at (set s.words i (becomes k n)) (homes_then means z phase count s r id v o at k) numbered (λ f blank b below. records_stay means z phase count s r id v o at k none ok f blank b)
+        (same_words i (becomes k n) inside) (no_free_party k none v.place (party_of v)) (goes_waits k none ok) (goes_suits k ok suits)
 
     -- WHAT IS IN HAND GOES HOME, from the place p of a seat that frees the spin word of its job
     module _ (j : Job) (list : List ℕ) (found : Record) (q : Place) (place : v.place ≡ Holding j list found ∷ q) (low : slot_of (spot_of j) < slots_in z) (w : WaitView C) (same_own : w.own ≡ v.own) (free : slot_in (hand_at w.place) ≡ None) (asks : asks_at w.place ≡ None) (k : Kept) (words : List ℕ) (same_client : client_words z words ≡ client_words z s.words) where
@@ -232,22 +136,19 @@ module _ {C : Type 0} (means : Meanings C) (z : Size) (phase count : ℕ) (s : W
       abbrev Result : Type 0
       Result = Attended means z phase record { words = words; homes = homes; views = set s.views id w }
 
-      out : get_elem? s.homes slot ≡ maybe.some maybe.none
-      out = home_out z s.words s.homes (map stance_of s.views) wide spins r.lists.hands id slot (stance_of v) list (at_map stance_of s.views id v at) low (ap hand_at place)
-
       asks_nothing : (u : PartyView C) → JobSuits means (asks_at w.place) u
       asks_nothing u = subst (λ (x : Option Job). JobSuits means x u) (sym asks) tt
 
       -- what the record read and reads, of this slot
       was : (f : Record → ℕ) → ReadsNothing f → (b : ℕ) → slot ≡ slot_of (Bar b) → field_of f b s.homes seats ≡ f found
-      was f blank b is = field_held f blank s.homes seats id b (attendance_of v) j list found q seat place is (subst (λ (x : ℕ). total (slot_held x) seats ≤ 1) is (few_held slot low)) (ap (get_elem? s.homes) (sym is) ∙ out)
+      was = found_reads means z phase count s r id v o at j list found q place low
 
       is_now : (f : Record → ℕ) → ReadsNothing f → (b : ℕ) → slot ≡ slot_of (Bar b) → field_of f b homes now_seats ≡ f k.record
-      is_now f blank b is = let e = field_sent s.homes seats id (attendance_of v) (attendance_of w) seat f b blank k j list found q out place free is in let h = was f blank b is in omega arith
+      is_now = left_reads means z phase count s r id v o at j list found q place low w free k
 
       -- and of another
       else : (f : Record → ℕ) → ReadsNothing f → (b : ℕ) → slot ≢ slot_of (Bar b) → field_of f b homes now_seats ≡ field_of f b s.homes seats
-      else f blank b ne = field_apart s.homes seats id (attendance_of v) (attendance_of w) seat f b blank k j list found q out place free ne
+      else = others_read means z phase count s r id v o at j list found q place low w free k
 
       -- as it was found
       returned : k.record ≡ found → party_of w ≡ party_of v → waits_at w.place ≡ waits_at v.place → Result
@@ -550,7 +451,6 @@ module _ {C : Type 0} (means : Meanings C) (z : Size) (phase count : ℕ) (s : W
 
               one_less : total (takes_part b) now_seats + 1 ≡ found.participants
               one_less = let sum = part_sum in let was = found_participants in let none = gone in let one : takes_part b (attendance_of v) ≡ 1 = ap one_if there in omega arith
-
 
           -- THE PHASE PASSES: all others wait for that
           module _ (ph : ℕ) (mine : phase_of v.attached b ≡ Some ph) (done : means.quiet (party_of v) b ph) (last : found.arrived + 1 ≡ found.participants) (lets : means.passes b ph) (low_phase : ph < last_phase) where
@@ -931,7 +831,6 @@ module _ {C : Type 0} (means : Meanings C) (z : Size) (phase count : ℕ) (s : W
 
     -- EACH STEP
     pub attended_step : (k : WaitStep) → word_of z o k < client_base z → Permits z k (Some o) v.target v.place → StepSuits means k v → StillAttended k
-    attended_step (Take x (Some c)) inside ok suits = took_first x c ok suits (taking_free z v.target x (Some c) (Some o) v.place ok) inside
-    attended_step (Take x None) inside ok suits = took_within x v.place refl (spot_inside z x r.sized.cvs ok.0) ok.1 (taking_free z v.target x None (Some o) v.place ok) ok inside
+    attended_step (Take x (Some c)) inside ok suits = stays (Take x (Some c)) tt inside ok suits
     attended_step (Free x target) inside ok suits = freed_at x target v.place refl ok.1 ok inside
-    attended_step k inside ok suits = stays_apart k tt inside ok
+    attended_step k inside ok suits = stays k tt inside ok (r.suits id (attendance_of v) seat)

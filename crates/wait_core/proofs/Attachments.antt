@@ -1,7 +1,6 @@
 -- The barriers to which a seat is attached, and the phases that it knows.
-use Rattle.std.proofs.Common.{◌≡◌, ◌≢◌, ℕ, ◌+◌, ◌<◌, ◌≤◌, eqb, Bool, true, false, cond, List, [], ◌∷◌, Option, None, Some, refl, sym, ap, ◌∙◌, arith, eq-eqb, ne_eqb, eqb-true}
+use Rattle.std.proofs.Common.{◌≡◌, ◌≢◌, ℕ, ◌≤◌, eqb, Bool, true, false, cond, List, [], ◌∷◌, Option, None, Some, refl, sym, ap, ◌∙◌, arith, eq-eqb, ne_eqb, eqb-true}
 use Rattle.wait_core.specs.declared.view.PartyView.{PartyView}
-use Rattle.seat_roster.specs.Roster.{one_if}
 use Rattle.wait_core.specs.Jobs.{away_from, at_phase}
 use Rattle.wait_core.specs.Parties.{phase_of, Reattached}
 use Rattle.wait_core.specs.Barriers.{is_from}

@@ -1,6 +1,5 @@
 -- What each step keeps of barriers, and of the client's law.
-use Rattle.std.proofs.Common.{◌≡◌, ◌≢◌, ◌⊎◌, ℕ, suc, ◌+◌, ◌-◌, ◌<◌, ◌≤◌, eqb, Bool, true, false, cond, List, [], ◌∷◌, map, length, get_or, set, Option, None, Some, refl, sym, ap, ◌∙◌, subst, ⊎_elim, inl, inr, arith}
-use Rattle.std.proofs.lemmas.List.{length-map}
+use Rattle.std.proofs.Common.{◌≡◌, ◌≢◌, ◌⊎◌, ℕ, suc, ◌<◌, ◌≤◌, List, [], map, length, set, None, Some, refl, sym, ap, ◌∙◌, subst, ⊎_elim, inl, inr, arith}
 use mathlib.Core.Option as maybe
 use lib.ListN.{get_elem?}
 use lib.Seq.{map-set}
@@ -14,7 +13,7 @@ use Rattle.seat_roster.specs.Roster.{one_if}
 use Rattle.seat_roster.proofs.Totals.{total_set}
 use Rattle.seat_roster.proofs.Stretches.{unseen, from_seen, each_set}
 use Rattle.wait_core.specs.Words.{last_phase, client_words}
-use Rattle.wait_core.specs.Machine.{WaitState, left_at}
+use Rattle.wait_core.specs.Machine.{WaitState}
 use Rattle.wait_core.specs.Meanings.{Meanings}
 use Rattle.wait_core.specs.Parties.{phase_of, now, Elected, Barriers, Here, HereBut}
 use Rattle.wait_core.specs.Seating.{party_of}
@@ -23,7 +22,7 @@ use Rattle.wait_core.specs.Stances.{Homes}
 use Rattle.wait_core.specs.Barriers.{Attendance, attendance_of, waits_at, is_from, asks_at, field_of, phase_in, phases, phases_in, takes_part, waits_from, CountsParticipants, CountsArrived, PhasesAreInside, KnowsPhases, PhasesAreKnown, IsWaiter, WaitersAreQuiet, ElectionsAreRecorded, JobSuits, CallsSuit}
 use Rattle.wait_core.specs.ClientHolds.{ClientHolds}
 use Rattle.wait_core.proofs.Records.{ReadsNothing, opened_long, opened_at, opened_same}
-use Rattle.wait_core.proofs.BarriersKept.{AllNear, AllPast, Wins, barriers_set}
+use Rattle.wait_core.proofs.BarriersKept.{Wins, barriers_set}
 use Rattle.wait_core.proofs.Attachments.{waited, same_waited, none_waited}
 
 -- a seat that waits for no phase knows that of each barrier; one that waits knows that of each other
@@ -37,7 +36,7 @@ here_waiting phases v bar f knows waits b ph ne is =
 module _ {C : Type 0} (means : Meanings C) (z : Size) (phase : ℕ) where
   -- the parts of the rule on barriers, and the client's
   pub record Attended (s : WaitState C) : Type 0 where
-    pub left : LeftAreFree (map party_of s.views)
+    pub left : LeftAreFree s.views
     pub barriers : Barriers (map party_of s.views) (phases_in z s)
     pub known : PhasesAreKnown (phases_in z s) (map attendance_of s.views)
     pub waiters : WaitersAreQuiet means (map attendance_of s.views)
@@ -103,7 +102,7 @@ module _ {C : Type 0} (means : Meanings C) (z : Size) (phase : ℕ) where
 
     pub goes : Goes → Attended t
     goes g = record {
-      left = subst LeftAreFree (sym parties) (each_set (λ (x : PartyView C). x.proc ≡ None → IsFree x) (map party_of s.views) id (party_of w) a.left (λ none. absurd (g.numbered (sym g.same_number ∙ none))));
+      left = each_set (λ (x : WaitView C). x.own ≡ None → IsFree x) s.views id w a.left (λ none. absurd (g.numbered (sym g.same_number ∙ none)));
       barriers = subst (λ (x : List (PartyView C) × List ℕ). Barriers x.0 x.1) (λ i. (sym parties i, sym same_phases i)) (barriers_set (map party_of s.views) (phases_in z s) phases_are id (party_of v) (party_of w) (at_map party_of s.views id v at) a.barriers
           (long homes after ∙ sym (long s.homes before)) (λ j u e b ph is. near j u (member j u e) b ph is) (λ b ph is. subst (λ (n : ℕ). b < n) (sym (long s.homes before)) (g.attached_inside b ph is)) (λ j u e b ph is. past j u (member j u e) b ph is) g.wins);
       known = subst (λ (x : List ℕ × List (Attendance C)). PhasesAreKnown x.0 x.1) (λ i. (sym same_phases i, sym seen i)) all_know;

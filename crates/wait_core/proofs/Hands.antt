@@ -243,7 +243,7 @@ pub asks_follows : (z : Size) (t : Option ℕ) (k : WaitStep) (own : Option ℕ)
 asks_follows z t k own o n found p ok fit = ap (λ (g : Grasp). g.1) (follows z t k own o n found p ok fit)
 
 -- WHERE A SEAT WAITS. A program that ends above a place changes nothing of it
-waits_resumed : (p : Place) → waits_at (resumed p) ≡ waits_at p
+pub waits_resumed : (p : Place) → waits_at (resumed p) ≡ waits_at p
 waits_resumed [] = refl
 waits_resumed (SleepWaiting c ∷ p) = refl
 waits_resumed (Preparing c ∷ p) = refl
@@ -257,7 +257,7 @@ waits_resumed (Passing b ph ∷ p) = waits_resumed p
 waits_resumed (Returning b ph ∷ p) = waits_resumed p
 waits_resumed (f ∷ p) = refl
 
-either_waits : (b : Bool) (p q : Place) (w : Option (ℕ × ℕ)) → waits_at p ≡ w → waits_at q ≡ w → waits_at (cond b p q) ≡ w
+pub either_waits : (b : Bool) (p q : Place) (w : Option (ℕ × ℕ)) → waits_at p ≡ w → waits_at q ≡ w → waits_at (cond b p q) ≡ w
 either_waits true p q w x y = x
 either_waits false p q w x y = y
 

@@ -21,7 +21,13 @@ pub mod Attachments
 pub mod BarriersKept
 pub mod Attending
 pub mod Passing
+pub mod Outcomes
+pub mod RecordsKept
 pub mod Arriving
+pub mod Electing
+pub mod Dozing
+pub mod ArrivalsHeed
+pub mod PassedPhaseIsBroadcast
 pub mod RecordsTold
 pub mod RuleKept
 pub mod Untouched

@@ -1,5 +1,5 @@
 -- The table at its opening meets the rule.
-use Rattle.std.proofs.Common.{◌≡◌, ℕ, zero, suc, ◌+◌, ◌<◌, ◌≤◌, Bool, false, List, [], ◌∷◌, ◌++◌, length, map, drop, get_or, set, Option, None, Some, refl, sym, ap, ◌∙◌, subst, arith, length-append, length-set, get_or-set_same, get_or-set_other}
+use Rattle.std.proofs.Common.{◌≡◌, ℕ, zero, suc, ◌+◌, ◌<◌, ◌≤◌, Bool, true, false, List, [], ◌∷◌, ◌++◌, length, map, drop, get_or, set, Option, None, Some, refl, sym, ap, ◌∙◌, subst, arith, length-append, length-set, get_or-set_same, get_or-set_other}
 use Rattle.std.specs.Prelude.{replicate}
 use Rattle.std.proofs.lemmas.List.{length-replicate, length-map, get_or-replicate, get_or_append_left}
 use Rattle.std.proofs.Math.Seq.{drop-append_seam}
@@ -9,9 +9,9 @@ use Rattle.atomic_table.specs.Table.{opening}
 use Rattle.wait_core.specs.declared.step.Spot.TheVariants.{Bar}
 use Rattle.wait_core.specs.declared.view.Frame.{Frame}
 use Rattle.wait_core.specs.declared.view.Kept.{Kept}
-use Rattle.wait_core.specs.declared.view.PartyView.{PartyView}
 use Rattle.wait_core.specs.declared.view.Record.{Record}
 use Rattle.wait_core.specs.declared.view.Size.{Size}
+use Rattle.wait_core.specs.declared.view.WaitView.{WaitView}
 use Rattle.wait_core.specs.Meanings.{Meanings}
 use Rattle.wait_core.specs.Words.{most_conditions, last_phase, slot_of, may_at, client_base, opening_phases, opened, opening_words}
 use Rattle.wait_core.specs.Machine.{WaitState, home_in}
@@ -20,8 +20,11 @@ use Rattle.wait_core.specs.Seating.{Standing, fresh}
 use Rattle.wait_core.specs.Places.{may_sleep, past_latch, past_shutdown, backend_count}
 use Rattle.wait_core.specs.Fits.{PlacesFit}
 use Rattle.wait_core.specs.Slots.{opening_record, AllAsOpened, OpeningSlots}
+use Rattle.wait_core.specs.ArrivalsHeed.{HeedsInArrival}
+use Rattle.wait_core.specs.PassedPhaseIsBroadcast.{dozes}
 use Rattle.wait_core.specs.LeftAreFree.{LeftAreFree}
 use Rattle.wait_core.specs.Barriers.{Attendance, attendance_of, waits_at, asks_at, field_of, phase_in, phases, KnowsPhases, IsWaiter, JobSuits}
+use Rattle.wait_core.specs.OneElected.{outcome_of, elected_in}
 use Rattle.wait_core.specs.Promises.{IsOpening}
 use Rattle.wait_core.specs.Rule.{Rule}
 use Rattle.seat_roster.proofs.Numbers.{roster_first}
@@ -30,6 +33,7 @@ use Rattle.wait_core.proofs.ListsAreMade.{lists_made_open}
 use Rattle.wait_core.proofs.ListsKept.{lists_open}
 use Rattle.wait_core.proofs.Records.{opened_long}
 use Rattle.wait_core.proofs.BarriersKept.{nobody_elected, barriers_more}
+use Rattle.wait_core.proofs.Outcomes.{one_of_none, one_more}
 use Rattle.wait_core.proofs.Untouched.{idle, idle_backend, places_snoc}
 
 first_place : (cvs : ℕ) → PlacesFit cvs (idle (Some 0) ∷ [])
@@ -69,8 +73,8 @@ module _ {C : Type 0} (means : Meanings C) (z : Size) (phase count : ℕ) (f : �
   long : length machine ≡ client_base z
   long = length-set (replicate (client_base z) 0) 0 1 ∙ length-replicate {A = ℕ} (client_base z) 0
 
-  only_numbered : LeftAreFree (newcomer c (Some 0) ∷ [])
-  only_numbered zero v e none = let own = ap (λ (x : PartyView C). x.proc) (maybe.some-injective _ _ e) in absurd (cc)
+  only_numbered : LeftAreFree (fresh c (Some 0) ∷ [])
+  only_numbered zero v e none = let own = ap (λ (x : WaitView C). x.own) (maybe.some-injective _ _ e) in absurd (cc)
   only_numbered (suc i) v e none = absurd (maybe.some-ne-none v (sym e))
 
   nobody : Barriers {C = C} [] (opening_phases z phase)
@@ -107,6 +111,8 @@ module _ {C : Type 0} (means : Meanings C) (z : Size) (phase count : ℕ) (f : �
     made = λ i above below. let a = zero_at i above below in omega arith;
     lists_made = lists_made_open z phase xs (Some 0) new.count new.each;
     lists = lists_open z phase (opening_words z f count) xs zero_at new;
+    heeds = each_more HeedsInArrival [] (fresh c (Some 0)) (λ i v e. absurd (maybe.some-ne-none v (sym e))) (λ settled. absurd (cc));
+    broadcasts = λ i p b ph v at own waits dozing late listed. absurd (each_more (λ (u : WaitView C). dozes u.place ≡ true → ⊥) [] (fresh c (Some 0)) (λ i v e. absurd (maybe.some-ne-none v (sym e))) (λ dozing. cc) i v at dozing);
     left = only_numbered;
     barriers = subst (Barriers (newcomer c (Some 0) ∷ [])) (sym stay) (barriers_more [] (opening_phases z phase) c (Some 0) nobody);
     known = each_more (KnowsPhases (phases z (map maybe.some xs) (start ∷ []))) [] start (λ i v e. absurd (maybe.some-ne-none v (sym e))) (λ b ph e. absurd (cc));
@@ -117,6 +123,7 @@ module _ {C : Type 0} (means : Meanings C) (z : Size) (phase count : ℕ) (f : �
       past = λ b below. let e = opened_record z phase xs b below new in let p = ap (λ (k : Record). k.elected) e in let q = ap (λ (k : Record). k.phase) e in omega arith;
       known = each_more (λ (u : Attendance C). (b ph : ℕ) → Elected u.party.elections b ph → (b < z.bars) × (ph ≤ field_of (λ r. r.elected) b (map maybe.some xs) (start ∷ []))) [] start (λ i v e. absurd (maybe.some-ne-none v (sym e))) (λ b ph won. absurd (nobody_elected b ph won));
     };
+    one_elected = one_more z.bars phase (λ b. phase) (λ b. elected_in b (map maybe.some xs) (start ∷ [])) [] (outcome_of (fresh c (Some 0))) (one_of_none z.bars phase) (λ b ph e. absurd (cc)) refl refl (λ b below. let e = opened_record z phase xs b below new in let p = ap (λ (k : Record). k.elected) e in omega arith);
     inside = λ b below. let e = opened_record z phase xs b below new in let p = ap (λ (k : Record). k.phase) e in (omega arith, omega arith);
     suits = each_more (λ (u : Attendance C). JobSuits means (asks_at u.place) u.party) [] start (λ i v e. absurd (maybe.some-ne-none v (sym e))) tt;
     client = subst (λ (x : List ℕ × List ℕ). means.holds x.0 (newcomer c (Some 0) ∷ []) x.1) (λ i. (sym ((λ i. drop (sym long i) (machine ++ opened f count)) ∙ drop-append_seam machine (opened f count)) i, sym stay i)) kept;

@@ -1,14 +1,12 @@
 -- Where all who take part but one have arrived, each of those waits for the phase to pass, and is quiet in it.
-use Rattle.std.proofs.Common.{◌≡◌, ◌≢◌, ◌⊎◌, ℕ, zero, suc, ◌+◌, ◌<◌, ◌≤◌, List, [], ◌∷◌, map, length, set, Option, None, Some, refl, sym, ap, ◌∙◌, subst, ⊎_elim, arith}
+use Rattle.std.proofs.Common.{◌≡◌, ◌≢◌, ℕ, zero, suc, ◌+◌, ◌<◌, ◌≤◌, List, [], ◌∷◌, None, Some, refl, sym, ap, ◌∙◌, subst, ⊎_elim, arith}
 use mathlib.Core.Logic.{dite}
 use mathlib.Core.Option as maybe
 use native.Mathlib.Decide.{ℕ_discrete}
 use lib.ListN.{get_elem?}
-use Rattle.wait_core.specs.declared.view.PartyView.{PartyView}
 use Rattle.seat_roster.specs.Totals.{total}
 use Rattle.seat_roster.specs.Roster.{one_if}
-use Rattle.seat_roster.proofs.Totals.{total_at, total_gap, total_some}
-use Rattle.wait_core.specs.Words.{last_phase}
+use Rattle.seat_roster.proofs.Totals.{total_gap, total_some}
 use Rattle.wait_core.specs.Meanings.{Meanings}
 use Rattle.wait_core.specs.Parties.{phase_of, now, Here}
 use Rattle.wait_core.specs.Barriers.{Attendance, waits_at, takes_part, waits_from, PhasesAreKnown, IsWaiter, WaitersAreQuiet}

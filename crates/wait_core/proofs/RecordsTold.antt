@@ -1,5 +1,5 @@
 -- What a seat is told of the record that it takes in hand.
-use Rattle.std.proofs.Common.{◌≡◌, ◌⊎◌, ℕ, suc, ◌+◌, ◌<◌, ◌≤◌, List, [], ◌∷◌, map, length, get_or, Option, None, Some, refl, sym, ap, ◌∙◌, ⊎_elim, arith}
+use Rattle.std.proofs.Common.{◌≡◌, ℕ, ◌+◌, ◌<◌, ◌≤◌, List, [], ◌∷◌, map, length, get_or, Option, None, Some, refl, sym, ap, ◌∙◌, arith}
 use Rattle.std.proofs.lemmas.List.{length-map}
 use mathlib.Core.Option as maybe
 use lib.ListN.{get_elem?}
@@ -17,7 +17,7 @@ use Rattle.seat_roster.proofs.Totals.{total_at, total_gap, total_le}
 use Rattle.wait_core.specs.Words.{slot_of, spin_at}
 use Rattle.wait_core.specs.Machine.{WaitState, word_of, home_in, slot_number, IsSpot, Permits}
 use Rattle.wait_core.specs.Meanings.{Meanings}
-use Rattle.wait_core.specs.Parties.{phase_of, now}
+use Rattle.wait_core.specs.Parties.{phase_of}
 use Rattle.wait_core.specs.Seating.{party_of}
 use Rattle.wait_core.specs.Barriers.{Attendance, attendance_of, waits_at, field_of, phases_in, takes_part, waits_from}
 use Rattle.wait_core.specs.Rule.{Rule}
@@ -25,7 +25,8 @@ use Rattle.wait_core.specs.Told.{IsInside, FindsPhase, CountsSeat, TellsRecord, 
 use Rattle.wait_core.proofs.Records.{field_home}
 use Rattle.wait_core.proofs.Attending.{here_idle}
 use Rattle.wait_core.proofs.Passing.{waits_less}
-use Rattle.wait_core.proofs.Arriving.{few_views, phase_seen, held_once}
+use Rattle.wait_core.proofs.Arriving.{few_views, phase_seen}
+use Rattle.wait_core.proofs.RecordsKept.{held_once}
 
 part_most : {C : Type 0} (b : ℕ) (v : Attendance C) → takes_part b v ≤ 1
 part_most b v = by_known (phase_of v.party.attached b)

@@ -24,7 +24,7 @@ use Rattle.wait_core.specs.Barriers.{StepSuits}
 use Rattle.wait_core.specs.WordsAreMade.{WordsAreMade}
 use Rattle.wait_core.specs.Rule.{Flags, Sized, Rule}
 use Rattle.seat_roster.proofs.Totals.{total_map, total_le}
-use Rattle.seat_roster.proofs.Stretches.{unseen}
+use Rattle.seat_roster.proofs.Stretches.{unseen, each_set}
 use Rattle.seat_roster.proofs.Numbers.{most_one, own_inside}
 use Rattle.wait_core.proofs.Counts.{owns, bit_le}
 use Rattle.wait_core.proofs.Effects.{Effect, effect, spot_inside}
@@ -38,6 +38,10 @@ use Rattle.wait_core.proofs.SetLatchWakes.{latch_kept}
 use Rattle.wait_core.proofs.ShutdownWakes.{shutdown_kept}
 use Rattle.wait_core.proofs.WordsAreMade.{made_step}
 use Rattle.wait_core.proofs.Arriving.{Owes, attended_step}
+use Rattle.wait_core.proofs.Electing.{one_elected_step}
+use Rattle.wait_core.specs.ArrivalsHeed.{HeedsInArrival}
+use Rattle.wait_core.proofs.ArrivalsHeed.{heeds_kept}
+use Rattle.wait_core.proofs.PassedPhaseIsBroadcast.{passed_step}
 
 -- each step is on a word between the next number and the client's
 pub word_inside : (z : Size) (o : ℕ) (k : WaitStep) → z.cvs ≤ most_conditions → (t : Option ℕ) (p : Place) → o < z.procs → Permits z k (Some o) t p → (0 < word_of z o k) × (word_of z o k < client_base z)
@@ -188,6 +192,8 @@ module _ {C : Type 0} (means : Meanings C) (z : Size) (phase count : ℕ) (s : W
         made = subst (WordsAreMade z (set s.words i (becomes k n))) (sym (map-set doings_of s.views id w)) (made_step z s.words (map doings_of s.views) id (doings_of v) o k (list_of k n found (number_of v.own) v.place) (at_map doings_of s.views id v at) own (omega arith) r.made);
         lists_made = subst (ListsAreMade z (homes_after s.homes (carried k o v.place) (act_of k n found))) (sym (map-set doings_of s.views id w ∙ ap (λ (x : ℕ). set (map doings_of s.views) id record (doings_of v) { steps = v.steps ++ made_with k n (list_of k n found x v.place) ∷ [] }) o_is)) (lists_made_step z s.homes (map doings_of s.views) id (doings_of v) o (at_map doings_of s.views id v at) own r.lists_made k n found v.place (lists_found z r.sized.cvs (get_or s.words 0 0) s.words s.homes s.views (omega arith) r.flags r.roster r.lists id v at o k ok));
         lists = lists_step z r.sized.cvs (get_or s.words 0 0) s.words s.homes s.views (omega arith) r.flags r.roster r.lists id v at o own below k ok fit (r.flags i inside.0 inside.1);
+        heeds = each_set HeedsInArrival s.views id w r.heeds (heeds_kept z v.target k (Some o) (number_of v.own) n found v.place v.heeds ok fit (r.heeds id v at));
+        broadcasts = passed_step means z phase count s r id v o at own below k ok (r.flags i inside.0 inside.1);
         left = b.left;
         barriers = b.barriers;
         known = b.known;
@@ -195,6 +201,7 @@ module _ {C : Type 0} (means : Meanings C) (z : Size) (phase count : ℕ) (s : W
         participants = b.participants;
         arrived = b.arrived;
         elections = b.elections;
+        one_elected = one_elected_step means z phase count s r id v o at own k ok;
         inside = b.inside;
         suits = b.suits;
         client = b.client;

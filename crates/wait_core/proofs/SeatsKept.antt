@@ -19,9 +19,11 @@ use Rattle.wait_core.specs.Words.{slot_of, client_base}
 use Rattle.wait_core.specs.Machine.{WaitState, Place}
 use Rattle.wait_core.specs.Parties.{phase_of, Elected, with_client, newcomer, joined, left_over, Barriers, IsStep, IsDraw, IsJoin}
 use Rattle.wait_core.specs.Seating.{Standing, Doings, numbers_of, standing_of, doings_of, party_of, client_moved, with_drawn, stays, comes, took_in, spent_view}
-use Rattle.wait_core.specs.LeftAreFree.{IsFree, LeftAreFree}
+use Rattle.wait_core.specs.LeftAreFree.{IsFree}
+use Rattle.wait_core.specs.ArrivalsHeed.{HeedsInArrival}
 use Rattle.wait_core.specs.Fits.{PlacesFit}
 use Rattle.wait_core.specs.Barriers.{Attendance, attendance_of, waits_at, is_from, asks_at, held_field, field_of, phase_in, phases, phases_in, takes_part, waits_from, CountsParticipants, CountsArrived, PhasesAreInside, KnowsPhases, PhasesAreKnown, IsWaiter, WaitersAreQuiet, ElectionsAreRecorded, JobSuits, CallsSuit}
+use Rattle.wait_core.specs.OneElected.{Outcome, outcome_of, elected_in, OneElected}
 use Rattle.wait_core.specs.WordsAreMade.{WordsAreMade}
 use Rattle.wait_core.specs.Promises.{LastHoldsAlone}
 use Rattle.wait_core.specs.Rule.{SeatsAreCounted, Rule}
@@ -33,6 +35,9 @@ use Rattle.wait_core.proofs.Attachments.{none_waited}
 use Rattle.wait_core.specs.Stances.{Homes}
 use Rattle.wait_core.proofs.Attending.{here_idle, unmoved, moved}
 use Rattle.wait_core.proofs.Arriving.{attended, few_views}
+use Rattle.wait_core.proofs.Outcomes.{one_more, one_joined}
+use Rattle.wait_core.proofs.Electing.{one_unmoved}
+use Rattle.wait_core.proofs.PassedPhaseIsBroadcast.{broadcast_set, broadcast_more, broadcast_spent}
 use Rattle.wait_core.proofs.BarriersKept.{elected_either, nobody_elected, barriers_more, barriers_joined}
 use Rattle.wait_core.proofs.Turns.{first as is_first, client as is_client}
 use Rattle.wait_core.specs.ListsAreMade.{ListsAreMade}
@@ -46,8 +51,8 @@ has_number : (own : Option ℕ) (p : ℕ) → own ≡ Some p → own ≡ None �
 has_number own p is none = absurd (cc)
 
 -- the view of a seat that was joined into another is free
-abbrev WasLeft : {C : Type 0} → PartyView C → Type 0
-WasLeft u = u.proc ≡ None → IsFree u
+abbrev WasLeft : {C : Type 0} → WaitView C → Type 0
+WasLeft u = u.own ≡ None → IsFree u
 
 -- what the parts on barriers say of each seat that may wait, and of its elections
 abbrev IsQuietWaiter : {C : Type 0} → Meanings C → Attendance C → Type 0
@@ -98,6 +103,8 @@ module _ {C : Type 0} (means : Meanings C) (z : Size) (phase count : ℕ) where
         made = subst (WordsAreMade z (set s.words (b + k) (f n))) (sym (unseen doings_of s.views id v w at refl)) (made_same z s.words (set s.words (b + k) (f n)) (map doings_of s.views) agree r.made);
         lists_made = subst (ListsAreMade z s.homes) (sym (unseen doings_of s.views id v w at refl)) r.lists_made;
         lists = lists_apart z r.sized.cvs (get_or s.words 0 0) s.words s.homes s.views (omega (arith, r.sized.long)) r.flags r.roster r.lists id v at (b + k) (f n) w (is_client (omega arith)) refl;
+        heeds = each_set HeedsInArrival s.views id w r.heeds (r.heeds id v at);
+        broadcasts = broadcast_set z s (set s.words (b + k) (f n)) id v w at refl refl r.broadcasts;
         left = b'.left;
         barriers = b'.barriers;
         known = b'.known;
@@ -105,6 +112,7 @@ module _ {C : Type 0} (means : Meanings C) (z : Size) (phase count : ℕ) where
         participants = b'.participants;
         arrived = b'.arrived;
         elections = b'.elections;
+        one_elected = one_unmoved means z phase count s r id v w at refl refl;
         inside = b'.inside;
         suits = b'.suits;
         client = b'.client;
@@ -136,6 +144,8 @@ module _ {C : Type 0} (means : Meanings C) (z : Size) (phase count : ℕ) where
         made = subst (WordsAreMade z (set s.words 0 x)) (sym (unseen doings_of s.views id v w at refl)) (made_same z s.words (set s.words 0 x) (map doings_of s.views) agree r.made);
         lists_made = subst (ListsAreMade z s.homes) (sym (unseen doings_of s.views id v w at refl)) r.lists_made;
         lists = lists_apart z r.sized.cvs (get_or s.words 0 0) s.words s.homes s.views (omega (arith, long)) r.flags r.roster r.lists id v at 0 x w (is_first refl) refl;
+        heeds = each_set HeedsInArrival s.views id w r.heeds (r.heeds id v at);
+        broadcasts = broadcast_set z s (set s.words 0 x) id v w at refl refl r.broadcasts;
         left = b.left;
         barriers = b.barriers;
         known = b.known;
@@ -143,6 +153,7 @@ module _ {C : Type 0} (means : Meanings C) (z : Size) (phase count : ℕ) where
         participants = b.participants;
         arrived = b.arrived;
         elections = b.elections;
+        one_elected = one_unmoved means z phase count s r id v w at refl refl;
         inside = b.inside;
         suits = b.suits;
         client = b.client;
@@ -180,7 +191,9 @@ module _ {C : Type 0} (means : Meanings C) (z : Size) (phase count : ℕ) where
         made = subst (WordsAreMade z s.words) (sym (map-append doings_of vs (w ∷ []) ∙ ap (λ (l : List Doings). l ++ record { own = v.pending; steps = []; inherited = [] } ∷ []) (unseen doings_of s.views id v (stays v) at refl))) (made_snoc z s.words (map doings_of s.views) v.pending r.made);
         lists_made = subst (ListsAreMade z s.homes) (sym (map-append doings_of vs (w ∷ []) ∙ ap (λ (l : List Doings). l ++ record { own = v.pending; steps = []; inherited = [] } ∷ []) (unseen doings_of s.views id v (stays v) at refl))) (lists_made_snoc z s.homes (map doings_of s.views) v.pending r.lists_made);
         lists = lists_more z r.sized.cvs (get_or s.words 0 0) s.words s.homes s.views (omega (arith, r.sized.long)) r.flags r.roster r.lists id v at (stays v) w v.pending refl refl;
-        left = subst LeftAreFree parties (each_more WasLeft (map party_of s.views) (newcomer c (Some n)) r.left (λ none. record { attached = refl; elections = refl }));
+        heeds = each_more HeedsInArrival vs w (each_set HeedsInArrival s.views id (stays v) r.heeds (r.heeds id v at)) (λ settled. absurd (cc));
+        broadcasts = broadcast_more z record { words = s.words; homes = s.homes; views = vs } w refl (broadcast_set z s s.words id v (stays v) at refl refl r.broadcasts);
+        left = each_more WasLeft vs w (each_set WasLeft s.views id (stays v) r.left (λ none. let free = r.left id v at none in record { attached = free.attached; elections = free.elections; passed = free.passed })) (λ none. record { attached = refl; elections = refl; passed = refl });
         barriers = subst (λ (y : List (PartyView C) × List ℕ). Barriers y.0 y.1) (λ i. (parties i, sym stay i)) (barriers_more (map party_of s.views) (phases_in z s) c (Some n) r.barriers);
         known = subst (λ (y : List ℕ × List (Attendance C)). PhasesAreKnown y.0 y.1) (λ i. (sym stay i, sym seen i)) (each_more (KnowsPhases (phases_in z s)) before (attendance_of w) r.known (λ b ph e. absurd (cc)));
         waiters = subst (WaitersAreQuiet means) (sym seen) (each_more (IsQuietWaiter means) before (attendance_of w) r.waiters (λ b ph e. absurd (cc)));
@@ -192,6 +205,8 @@ module _ {C : Type 0} (means : Meanings C) (z : Size) (phase count : ℕ) where
           past = λ b below. let was = r.elections.past b below in let e = held (λ y. y.elected) (slot_of (Bar b)) in let ph = held (λ y. y.phase) (slot_of (Bar b)) in omega arith;
           known = each_more (IsRecorded z s.homes (before ++ attendance_of w ∷ [])) before (attendance_of w) (λ j u e b ph won. let was = r.elections.known j u e b ph won in let most = was.1 in let same = held (λ y. y.elected) (slot_of (Bar b)) in (was.0, omega arith)) (λ b ph won. absurd (nobody_elected b ph won));
         });
+        one_elected = subst (λ (y : List (Attendance C) × List Outcome). OneElected z.bars phase (λ b. elected_in b s.homes y.0) y.1) (λ i. (sym seen i, sym (map-append outcome_of vs (w ∷ []) ∙ ap (λ (l : List Outcome). l ++ outcome_of w ∷ []) (unseen outcome_of s.views id v (stays v) at refl)) i))
+            (one_more z.bars phase (λ b. elected_in b s.homes before) (λ b. elected_in b s.homes (before ++ attendance_of w ∷ [])) (map outcome_of s.views) (outcome_of w) r.one_elected (λ b ph e. absurd (cc)) refl refl (λ b below. let e = held (λ y. y.elected) (slot_of (Bar b)) in omega arith));
         inside = subst (PhasesAreInside z phase s.homes) (sym seen) (λ b below. let was = r.inside b below in let low = was.0 in let high = was.1 in let e = held (λ y. y.phase) (slot_of (Bar b)) in (omega arith, omega arith));
         suits = subst (CallsSuit means) (sym seen) (each_more (λ (u : Attendance C). JobSuits means (asks_at u.place) u.party) before (attendance_of w) r.suits tt);
         client = subst (λ (y : List (PartyView C) × List ℕ). means.holds (drop (client_base z) s.words) y.0 y.1) (λ i. (parties i, sym stay i))
@@ -238,8 +253,9 @@ module _ {C : Type 0} (means : Meanings C) (z : Size) (phase count : ℕ) where
         lists_made = subst (ListsAreMade z s.homes) (sym (map-set doings_of vs other y ∙ ap (λ (l : List Doings). set l other record { own = None; steps = []; inherited = [] }) (map-set doings_of s.views id x)))
             (lists_made_joined z s.homes (map doings_of s.views) id other (doings_of v) (doings_of w) apart (at_map doings_of s.views id v at) (at_map doings_of s.views other w there) r.lists_made);
         lists = lists_joined z r.sized.cvs (get_or s.words 0 0) s.words s.homes s.views (omega (arith, r.sized.long)) r.flags r.roster r.lists id v at other w x y apart there still free.0 refl refl;
-        left = subst LeftAreFree parties (each_set WasLeft (set (map party_of s.views) id (joined both (party_of v) (party_of w))) other (left_over c)
-            (each_set WasLeft (map party_of s.views) id (joined both (party_of v) (party_of w)) r.left (λ none. absurd (has_number v.own p own none))) (λ none. record { attached = refl; elections = refl }));
+        heeds = each_set HeedsInArrival vs other y (each_set HeedsInArrival s.views id x r.heeds (r.heeds id v at)) (λ settled. absurd (cc));
+        broadcasts = broadcast_spent z record { words = s.words; homes = s.homes; views = vs } other w y there' still refl (broadcast_set z s s.words id v x at refl refl r.broadcasts);
+        left = each_set WasLeft vs other y (each_set WasLeft s.views id x r.left (λ none. absurd (has_number v.own p own none))) (λ none. record { attached = refl; elections = refl; passed = refl });
         barriers = subst (λ (q : List (PartyView C) × List ℕ). Barriers q.0 q.1) (λ i. (parties i, sym stay i)) (barriers_joined (map party_of s.views) (phases_in z s) id other (party_of v) (party_of w) both c r.barriers (at_map party_of s.views id v at) (at_map party_of s.views other w there) apart);
         known = subst (λ (q : List ℕ × List (Attendance C)). PhasesAreKnown q.0 q.1) (λ i. (sym stay i, sym seen i))
             (each_set (KnowsPhases (phases_in z s)) (set before id (attendance_of x)) other (attendance_of y) (each_set (KnowsPhases (phases_in z s)) before id (attendance_of x) r.known (r.known id (attendance_of v) seat)) (λ b ph e. absurd (cc)));
@@ -261,6 +277,9 @@ module _ {C : Type 0} (means : Meanings C) (z : Size) (phase count : ℕ) where
               (λ b ph won. ⊎_elim (λ mine. moved_over id (attendance_of v) seat b ph mine) (λ its. moved_over other (attendance_of w) (at_map attendance_of s.views other w there) b ph its) (elected_either v.elections w.elections b ph won.0 won.1)))
               (λ b ph won. absurd (nobody_elected b ph won));
         });
+        one_elected = subst (λ (q : List (Attendance C) × List Outcome). OneElected z.bars phase (λ b. elected_in b s.homes q.0) q.1) (λ i. (sym seen i, sym (map-set outcome_of vs other y ∙ ap (λ (l : List Outcome). set l other (outcome_of y)) (map-set outcome_of s.views id x)) i))
+            (one_joined z.bars phase (λ b. elected_in b s.homes before) (λ b. elected_in b s.homes (set (set before id (attendance_of x)) other (attendance_of y))) (map outcome_of s.views) id other (outcome_of v) (outcome_of w) (outcome_of x) (outcome_of y) r.one_elected apart (at_map outcome_of s.views id v at) (at_map outcome_of s.views other w there)
+            (r.one_elected.waits id (outcome_of v) (at_map outcome_of s.views id v at)) (λ b ph e. absurd (cc)) refl refl refl refl (λ b below. let e = held (λ q. q.elected) (slot_of (Bar b)) in omega arith));
         inside = subst (PhasesAreInside z phase s.homes) (sym seen) (λ b below. let was = r.inside b below in let low = was.0 in let high = was.1 in let e = held (λ q. q.phase) (slot_of (Bar b)) in (omega arith, omega arith));
         suits = subst (CallsSuit means) (sym seen) (each_set (λ (u : Attendance C). JobSuits means (asks_at u.place) u.party) (set before id (attendance_of x)) other (attendance_of y)
             (each_set (λ (u : Attendance C). JobSuits means (asks_at u.place) u.party) before id (attendance_of x) r.suits (subst (λ (q : Place). JobSuits means (asks_at q) (party_of x)) (sym idle_is) tt)) tt);
@@ -292,6 +311,6 @@ module _ {C : Type 0} (means : Meanings C) (z : Size) (phase count : ℕ) where
   pub alone_at_last : (s : WaitState C) → Rule means z phase count s → LastHoldsAlone s
   alone_at_last s r i j v u apart at there own all =
       let none = others_numberless s r i v at own all j u apart there in
-      let free = r.left j (party_of u) (at_map party_of s.views j u there) none in
+      let free = r.left j u there none in
       let out = r.places.unnumbered j (standing_of u) (at_map standing_of s.views j u there) none in
-      record { numberless = none; idle = out.0; target = out.1; attached = free.attached; elections = free.elections }
+      record { numberless = none; idle = out.0; target = out.1; attached = free.attached; elections = free.elections; passed = free.passed }

@@ -23,7 +23,7 @@ use Rattle.wait_core.specs.declared.view.WaitView.{WaitView}
 use Rattle.wait_core.specs.Words.{most_conditions, set_at, may_at, byte_at, shut_at, slot_of, spin_at, slots_in}
 use Rattle.wait_core.specs.Lists.{is_listed}
 use Rattle.wait_core.specs.Jobs.{spot_of, is_worn, is_last, is_awaited, has_passed, left_list, left_record, target_after, heeds_after, resumed, passes_on, goes_on}
-use Rattle.wait_core.specs.Machine.{Place, top, outer, number_of, word_of, becomes, begun, reloaded, marked, woken, looked, drained, reset, entered, as_kept, taken, spun, place_then, target_then, heeds_then, home_of, home_in, slot_number, act_of, carried, IsInside, MayBegin, BeginsLoad, takes_first, MayReload, MayMark, MayWake, MayLook, MayDrain, MayReset, MayTake, MaySpin, MayFree, Permits, next_with}
+use Rattle.wait_core.specs.Machine.{Place, top, outer, number_of, word_of, becomes, begun, reloaded, marked, woken, looked, drained, reset, entered, as_kept, taken, spun, place_then, target_then, heeds_then, home_of, home_in, slot_number, act_of, carried, MayBegin, BeginsLoad, takes_first, MayReload, MayMark, MayWake, MayLook, MayDrain, MayReset, MayTake, MaySpin, MayFree, Permits, next_with}
 use Rattle.wait_core.specs.Fits.{BehindPrepare, BehindSleep, BehindBroadcast, BehindSet, BehindWait, BehindCancel, JobFits, Fits}
 use Rattle.wait_core.specs.Stances.{Stance, Homes, hand_at, sentinel_at, belongs_at, heeds_at, pops_at, stance_of}
 use Rattle.wait_core.proofs.Effects.{spot_inside, IsAlone, alone_outside, alone_idle}

@@ -1,4 +1,4 @@
--- What a spin word is taken for: which word, what its free makes of the list, of the record, of the seat's target, of whether it heeds its signal, of its attachments and of its elections, and how the program goes on.
+-- What a spin word is taken for: which word, what its free makes of the list, of the record, of the seat's target, of whether it heeds its signal, of its attachments, of its elections and of the phases that it waited out, and how the program goes on.
 use Rattle.std.specs.Prelude.{ℕ, ◌+◌, ◌-◌, ◌==◌, nat_lt, Bool, true, false, cond, List, [], ◌∷◌, ◌++◌, Option, None, Some}
 use Rattle.wait_core.specs.declared.step.Spot.{Spot}
 use Rattle.wait_core.specs.declared.step.Spot.TheVariants.{Cv, Bar}
@@ -92,6 +92,12 @@ abbrev pub elections_after : Job → Record → List (ℕ × ℕ) → List (ℕ 
 elections_after (job.Arrive b) r elections = cond (is_worn r) elections (cond (is_last r) ((b, r.phase + 1) ∷ elections) elections)
 elections_after (job.Notice b ph) r elections = cond (has_passed ph r) (cond (r.elected == ph + 1) elections ((b, ph + 1) ∷ elections)) elections
 elections_after j r elections = elections
+
+-- the phases that it waited out after it: the last to arrive its own, and of those who waited each that notices
+abbrev pub passed_after : Job → Record → List (ℕ × ℕ) → List (ℕ × ℕ)
+passed_after (job.Arrive b) r passed = cond (is_worn r) passed (cond (is_last r) ((b, r.phase) ∷ passed) passed)
+passed_after (job.Notice b ph) r passed = cond (has_passed ph r) ((b, ph) ∷ passed) passed
+passed_after j r passed = passed
 
 -- the seat's target after it
 abbrev pub target_after : Job → Option ℕ → Option ℕ

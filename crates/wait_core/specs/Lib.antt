@@ -22,6 +22,9 @@ pub mod SignalIsKept
 pub mod ListsAreMade
 pub mod ListsStand
 pub mod LeftAreFree
+pub mod OneElected
+pub mod ArrivalsHeed
+pub mod PassedPhaseIsBroadcast
 pub mod Rule
 pub mod Wakes
 pub mod Runs

@@ -20,7 +20,7 @@ use Rattle.wait_core.specs.declared.view.Record.{Record}
 use Rattle.wait_core.specs.declared.view.Size.{Size}
 use Rattle.wait_core.specs.declared.view.WaitView.{WaitView}
 use Rattle.wait_core.specs.Words.{set_at, may_at, byte_at, shut_at, slot_of, spin_at}
-use Rattle.wait_core.specs.Jobs.{spot_of, left_list, left_record, target_after, heeds_after, attached_after, elections_after, resumed, goes_on}
+use Rattle.wait_core.specs.Jobs.{spot_of, left_list, left_record, target_after, heeds_after, attached_after, elections_after, passed_after, resumed, goes_on}
 
 -- the words, what is at home in the slots, and one view per seat
 abbrev pub WaitState : Type 0 → Type 0
@@ -243,6 +243,15 @@ abbrev pub elections_then : WaitStep → Place → List (ℕ × ℕ) → List (�
 elections_then (Free x target) p elections = freed_elections p elections
 elections_then k p elections = elections
 
+-- the phases that it waited out
+abbrev pub freed_passed : Place → List (ℕ × ℕ) → List (ℕ × ℕ)
+freed_passed (Holding j list found ∷ p) passed = passed_after j found passed
+freed_passed p passed = passed
+
+abbrev pub passed_then : WaitStep → Place → List (ℕ × ℕ) → List (ℕ × ℕ)
+passed_then (Free x target) p passed = freed_passed p passed
+passed_then k p passed = passed
+
 -- what is left of what the backend `own` has in hand
 abbrev pub left_at : ℕ → Place → Kept
 left_at own (Holding j list found ∷ p) = as_kept (left_list j own list) (left_record j found)
@@ -457,6 +466,7 @@ module _ {C : Type 0} where
     heeds = heeds_then k (number_of v.own) v.place v.heeds;
     attached = attached_then k v.place v.attached;
     elections = elections_then k v.place v.elections;
+    passed = passed_then k v.place v.passed;
   }
 
   -- the same of a step that takes nothing in hand

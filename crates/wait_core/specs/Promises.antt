@@ -1,5 +1,5 @@
 -- The statements of the laws over states and over runs.
-use Rattle.std.specs.Prelude.{◌≡◌, ◌⊎◌, ℕ, ◌<◌, ◌≤◌, List, [], ◌∷◌, length, true, None, Some, slice_index}
+use Rattle.std.specs.Prelude.{◌≡◌, ◌⊎◌, ℕ, suc, ◌-◌, ◌<◌, ◌≤◌, List, [], ◌∷◌, length, true, None, Some, slice_index}
 use mathlib.Core.Option as maybe
 use lib.ListN.{get_elem?}
 use Rattle.atomic_table.specs.Table.{opening}
@@ -11,12 +11,15 @@ use Rattle.wait_core.specs.declared.view.WaitView.{WaitView}
 use Rattle.wait_core.specs.Meanings.{Meanings}
 use Rattle.wait_core.specs.Words.{most_conditions, last_phase, set_at, shut_at, opened, opening_words, opening_phases}
 use Rattle.wait_core.specs.Machine.{WaitState}
-use Rattle.wait_core.specs.Parties.{newcomer}
+use Rattle.wait_core.specs.Parties.{Elected, newcomer, now}
+use Rattle.wait_core.specs.OneElected.{times_of, WaitedOut}
 use Rattle.wait_core.specs.Seating.{fresh}
 use Rattle.wait_core.specs.Slots.{OpeningSlots}
 use Rattle.seat_roster.specs.Roster.{times}
 use Rattle.wait_core.specs.Runs.{Deed, Runs, Somewhere}
 use Rattle.wait_core.specs.Broadcasts.{listed_on, StandsBehind, AtFirstTake, TakesOff}
+use Rattle.wait_core.specs.Barriers.{waits_at, phases_in}
+use Rattle.wait_core.specs.PassedPhaseIsBroadcast.{IsBroadcastTo}
 use Rattle.wait_core.specs.Wakes.{IsAsleep, SleepsTillShutdown, LatchWakePending, ShutdownWakePending, SignalPending}
 
 module _ {C : Type 0} where
@@ -32,6 +35,23 @@ module _ {C : Type 0} where
   abbrev pub NoSignalIsSleptThrough : WaitState C → Type 0
   NoSignalIsSleptThrough s = (id p c : ℕ) (v : WaitView C) → get_elem? s.views id ≡ maybe.some v → v.own ≡ Some p → v.target ≡ Some c → v.heeds ≡ true → listed_on p c s ≡ 0 → IsAsleep v → LatchWakePending p s ⊎ SignalPending p s
 
+  -- nobody who waits at a barrier from a phase that has passed is asleep, unless it is listed and another who passed that phase is broadcasting to it, a wake is pending, or who popped it has still to set its latch
+  abbrev pub NobodySleepsPastItsPhase : Size → WaitState C → Type 0
+  NobodySleepsPastItsPhase z s = (id p b ph : ℕ) (v : WaitView C) → get_elem? s.views id ≡ maybe.some v → v.own ≡ Some p → waits_at v.place ≡ Some (b, ph) → ph < now (phases_in z s) b → IsAsleep v → ((1 ≤ listed_on p b s) × IsBroadcastTo p b ph s) ⊎ (LatchWakePending p s ⊎ SignalPending p s)
+
+  -- the seat i waited out this phase of the barrier, was elected for the next once, and nobody else was
+  pub record IsElected (b ph i : ℕ) (s : WaitState C) : Type 0 where
+    pub view : WaitView C
+    pub at : get_elem? s.views i ≡ maybe.some view
+    pub waited : WaitedOut view.passed b ph
+    pub once : times_of b (suc ph) view.elections ≡ 1
+    pub alone : (j : ℕ) (u : WaitView C) → get_elem? s.views j ≡ maybe.some u → Elected u.elections b (suc ph) → j ≡ i
+
+  -- of those who waited out a phase one is elected for the next; and whoever was elected for a phase waited out the one before
+  pub record OneIsElected (s : WaitState C) : Type 0 where
+    pub one : (id b ph : ℕ) (v : WaitView C) → get_elem? s.views id ≡ maybe.some v → WaitedOut v.passed b ph → (i : ℕ) × IsElected b ph i s
+    pub waited : (id b ph : ℕ) (v : WaitView C) → get_elem? s.views id ≡ maybe.some v → Elected v.elections b ph → (0 < ph) × WaitedOut v.passed b (ph - 1)
+
   -- what stays of a seat that was joined into another
   pub record IsLeftOver (u : WaitView C) : Type 0 where
     pub numberless : u.own ≡ None
@@ -39,6 +59,7 @@ module _ {C : Type 0} where
     pub target : u.target ≡ None
     pub attached : u.attached ≡ []
     pub elections : u.elections ≡ []
+    pub passed : u.passed ≡ []
 
   -- once the seat with the number 0 has taken over every number that it drew, nothing is with any other
   abbrev pub LastHoldsAlone : WaitState C → Type 0

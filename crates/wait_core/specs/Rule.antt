@@ -17,8 +17,11 @@ use Rattle.wait_core.specs.ClientHolds.{ClientHolds}
 use Rattle.wait_core.specs.WordsAreMade.{WordsAreMade}
 use Rattle.wait_core.specs.ListsAreMade.{ListsAreMade}
 use Rattle.wait_core.specs.ListsStand.{ListsStand}
+use Rattle.wait_core.specs.ArrivalsHeed.{ArrivalsHeed}
+use Rattle.wait_core.specs.PassedPhaseIsBroadcast.{PassedPhaseIsBroadcast}
 use Rattle.wait_core.specs.LeftAreFree.{LeftAreFree}
 use Rattle.wait_core.specs.Barriers.{attendance_of, phases_in, CountsParticipants, CountsArrived, PhasesAreInside, PhasesAreKnown, WaitersAreQuiet, ElectionsAreRecorded, CallsSuit}
+use Rattle.wait_core.specs.OneElected.{outcome_of, elected_in, OneElected}
 
 -- the numbers of backends, of words, and of slots: one for each condition that there may be, and for each barrier
 pub record Sized (z : Size) (count words homes : ℕ) : Type 0 where
@@ -49,13 +52,16 @@ module _ {C : Type 0} (means : Meanings C) (z : Size) (phase count : ℕ) where
     pub made : WordsAreMade z s.words (map doings_of s.views)
     pub lists_made : ListsAreMade z s.homes (map doings_of s.views)
     pub lists : ListsStand z s.words s.homes (map stance_of s.views)
-    pub left : LeftAreFree (map party_of s.views)
+    pub heeds : ArrivalsHeed s.views
+    pub broadcasts : PassedPhaseIsBroadcast z s
+    pub left : LeftAreFree s.views
     pub barriers : Barriers (map party_of s.views) (phases_in z s)
     pub known : PhasesAreKnown (phases_in z s) (map attendance_of s.views)
     pub waiters : WaitersAreQuiet means (map attendance_of s.views)
     pub participants : CountsParticipants z s.homes (map attendance_of s.views)
     pub arrived : CountsArrived z s.homes (map attendance_of s.views)
     pub elections : ElectionsAreRecorded z s.homes (map attendance_of s.views)
+    pub one_elected : OneElected z.bars phase (λ b. elected_in b s.homes (map attendance_of s.views)) (map outcome_of s.views)
     pub inside : PhasesAreInside z phase s.homes (map attendance_of s.views)
     pub suits : CallsSuit means (map attendance_of s.views)
     pub client : ClientHolds means z s

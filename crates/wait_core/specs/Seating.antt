@@ -39,7 +39,7 @@ module _ {C : Type 0} where
 
   -- the view of a seat with this number, or with none, which did nothing yet
   abbrev pub fresh : C → Option ℕ → WaitView C
-  fresh c own = record { own = own; pending = None; taken = []; drawn = 0; place = []; steps = []; inherited = []; client = c; attached = []; elections = []; target = None; heeds = false }
+  fresh c own = record { own = own; pending = None; taken = []; drawn = 0; place = []; steps = []; inherited = []; client = c; attached = []; elections = []; passed = []; target = None; heeds = false }
 
   -- the seat after a step of its client
   abbrev pub client_moved : WaitView C → C → WaitView C
@@ -58,7 +58,7 @@ module _ {C : Type 0} where
 
   -- a seat takes in another, and the other is spent
   abbrev pub took_in : (C → C → C) → WaitView C → WaitView C → WaitView C
-  took_in both v w = record v { taken = v.taken ++ (listed w.own ++ w.taken); inherited = v.inherited ++ (signed w.own w.steps ++ w.inherited); client = both v.client w.client; elections = v.elections ++ w.elections }
+  took_in both v w = record v { taken = v.taken ++ (listed w.own ++ w.taken); inherited = v.inherited ++ (signed w.own w.steps ++ w.inherited); client = both v.client w.client; elections = v.elections ++ w.elections; passed = v.passed ++ w.passed }
 
   abbrev pub spent_view : C → WaitView C
   spent_view c = fresh c None

@@ -14,7 +14,7 @@ ghost use Rattle.wait_core.specs.WordsAreMade.{WordsAreMade};
 ghost use Rattle.wait_core.specs.ListsAreMade.{ListsAreMade};
 ghost use Rattle.wait_core.specs.Rule.{Rule};
 ghost use Rattle.wait_core.specs.Runs.{Deed, Steps, Runs, after_client};
-ghost use Rattle.wait_core.specs.Promises.{NoSetLatchIsSleptOn, NoShutdownIsSleptThrough, NoSignalIsSleptThrough, LastHoldsAlone, IsOpening, IsReached, SentinelStandsBehind, BroadcastWakesAll};
+ghost use Rattle.wait_core.specs.Promises.{NoSetLatchIsSleptOn, NoShutdownIsSleptThrough, NoSignalIsSleptThrough, NobodySleepsPastItsPhase, OneIsElected, LastHoldsAlone, IsOpening, IsReached, SentinelStandsBehind, BroadcastWakesAll};
 
 use crate::party::Party;
 use crate::view::Size;
@@ -58,6 +58,20 @@ pub fn shutdown_wakes<P: Party>(party: &P, size: Size, phase: u64)
 pub fn signal_wakes<P: Party>(party: &P, size: Size, phase: u64)
     ensures states { (s : WaitState P.View) → Rule (P.means party.now) size phase (P.word_count party.now) s → NoSignalIsSleptThrough s }
     ensures runs { (s : WaitState P.View) → IsReached (P.does party.now) (P.may party.now) (P.after party.now) (P.first party.now) P.spent P.both (P.opens party.now) (P.means party.now) (P.word_count party.now) size phase s → NoSignalIsSleptThrough s }
+{}
+
+/// Whatever happens to a new table, who waits at a barrier for a phase that has passed isn't asleep,
+/// unless another who passed it is broadcasting, a wake is pending or its latch is still to be set.
+pub fn nobody_sleeps_past_its_phase<P: Party>(party: &P, size: Size, phase: u64)
+    ensures states { (s : WaitState P.View) → Rule (P.means party.now) size phase (P.word_count party.now) s → NobodySleepsPastItsPhase size s }
+    ensures runs { (s : WaitState P.View) → IsReached (P.does party.now) (P.may party.now) (P.after party.now) (P.first party.now) P.spent P.both (P.opens party.now) (P.means party.now) (P.word_count party.now) size phase s → NobodySleepsPastItsPhase size s }
+{}
+
+/// Whatever happens to a new table, of those who waited out a phase of a barrier exactly one is
+/// elected for the next, and nobody else is.
+pub fn one_is_elected<P: Party>(party: &P, size: Size, phase: u64)
+    ensures states { (s : WaitState P.View) → Rule (P.means party.now) size phase (P.word_count party.now) s → OneIsElected s }
+    ensures runs { (s : WaitState P.View) → IsReached (P.does party.now) (P.may party.now) (P.after party.now) (P.first party.now) P.spent P.both (P.opens party.now) (P.means party.now) (P.word_count party.now) size phase s → OneIsElected s }
 {}
 
 /// Whoever stood on a condition's list at the first take of a broadcast has left it since, by a
@@ -118,7 +132,8 @@ pub fn others_are_left<P: Party>(party: &P, size: Size, phase: u64)
 {}
 
 /// The last seat holds alone: once the seat with the number 0 has taken over every number that it
-/// drew, no other has a number, is in a call, is attached to a barrier or was elected.
+/// drew, no other has a number, is in a call, is attached to a barrier, waited out a phase or was
+/// elected.
 pub fn last_holds_alone<P: Party>(party: &P, size: Size, phase: u64)
     ensures { (s : WaitState P.View) → Rule (P.means party.now) size phase (P.word_count party.now) s → LastHoldsAlone s }
 {}

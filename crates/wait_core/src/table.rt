@@ -257,8 +257,8 @@ impl<P: Party> WaitTable<P> {
         seat.backoff.snooze();
     }
 
-    /// A seat in no call takes in another, whose number isn't given again. The other's elections and client
-    /// view go to it.
+    /// A seat in no call takes in another, whose number isn't given again. The other's elections, the
+    /// phases that it waited out and its client view go to it.
     pub fn join(&self, into: &mut WaitSeat<P>, from: WaitSeat<P>)
         requires table { (into.old.table_id ≡ self.now.table_id) × (from.table_id ≡ self.now.table_id) }
         requires into { into.old.view.place ≡ [] }

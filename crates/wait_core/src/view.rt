@@ -157,6 +157,9 @@ pub struct WaitView<C> {
     pub client: C,
     pub attached: LinkedList<(u32, u64)>,
     pub elections: LinkedList<(u32, u64)>,
+    /// Each barrier and phase that it waited out: it was the last to arrive, or noticed that the
+    /// phase had passed.
+    pub passed: LinkedList<(u32, u64)>,
     /// The condition that it sleeps on, or prepared to.
     pub target: Option<u32>,
     /// It didn't reset its latch by itself since it was listed there.
