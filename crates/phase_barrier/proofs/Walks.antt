@@ -118,10 +118,10 @@ module _ {C : Type 0} (z : Size) (purpose : Purpose) (b : ℕ) (below : b < z.ba
       by_purpose ExceptLast = λ i. record (visited (job.ExceptLast b) r v []) { steps = append_assoc v.steps took (made_with (Free (Bar b) v.target) n list ∷ []) i }
 
 -- A PHASE THAT PASSES. From the visit that passed it the backend goes on to wake who waited
-module _ {C : Type 0} (b ph : ℕ) (begins : Call) (v w x : WaitView C) (attached elections : List (ℕ × ℕ)) (visit wakes : List Made) (was : w ≡ record v { place = Passing b ph ∷ []; steps = v.steps ++ visit; attached = attached; elections = elections })
+module _ {C : Type 0} (b ph : ℕ) (begins : Call) (v w x : WaitView C) (attached elections passed : List (ℕ × ℕ)) (visit wakes : List Made) (was : w ≡ record v { place = Passing b ph ∷ []; steps = v.steps ++ visit; attached = attached; elections = elections; passed = passed })
     (is : x ≡ stands w (resumed w.place) None w.heeds wakes) where
-  pub passed_view : x ≡ ended v attached elections None v.heeds (visit ++ wakes)
-  passed_view = is ∙ ((λ i. stands (was i) (resumed (was i).place) None (was i).heeds wakes) ∙ (λ i. record (ended v attached elections None v.heeds []) { steps = append_assoc v.steps visit wakes i }))
+  pub passed_view : x ≡ ended v attached elections passed None v.heeds (visit ++ wakes)
+  passed_view = is ∙ ((λ i. stands (was i) (resumed (was i).place) None (was i).heeds wakes) ∙ (λ i. record (ended v attached elections passed None v.heeds []) { steps = append_assoc v.steps visit wakes i }))
 
   pub passes : Visits b (Some begins) v.target visit → Broadcasts (number_of w.own) b w.target wakes → Passes (number_of v.own) b begins v.target (visit ++ wakes)
   passes visits woken = record { visit = visit; wakes = wakes; split = refl; visits = visits; broadcasts = subst (λ (y : WaitView C). Broadcasts (number_of y.own) b y.target wakes) was woken }
@@ -131,7 +131,7 @@ module _ {C : Type 0} where
   pub left_passing : (b ph : ℕ) (begins : Call) (v w x : WaitView C) (visit wakes : List Made) (t : Bool) → t ≡ true → w ≡ record v { place = Passing b ph ∷ []; steps = v.steps ++ visit; attached = away_from b v.attached } → Visits b (Some begins) v.target visit
       → x ≡ stands w (resumed w.place) None w.heeds wakes → Broadcasts (number_of w.own) b w.target wakes → Departed b begins t v x
   left_passing b ph begins v w x visit wakes t e was visits is woken = subst (λ (y : Bool). Departed b begins y v x) (sym e)
-      (record { more = visit ++ wakes; view = passed_view b ph begins v w x (away_from b v.attached) v.elections visit wakes was is; steps = passes b ph begins v w x (away_from b v.attached) v.elections visit wakes was is visits woken })
+      (record { more = visit ++ wakes; view = passed_view b ph begins v w x (away_from b v.attached) v.elections v.passed visit wakes was is; steps = passes b ph begins v w x (away_from b v.attached) v.elections v.passed visit wakes was is visits woken })
 
   pub left_quietly : (b : ℕ) (begins : Call) (v x : WaitView C) (visit : List Made) (t : Bool) → t ≡ false → x ≡ record v { place = []; steps = v.steps ++ visit; attached = away_from b v.attached } → Visits b (Some begins) v.target visit → Departed b begins t v x
   left_quietly b begins v x visit t e is visits = subst (λ (y : Bool). Departed b begins y v x) (sym e) (record { more = visit; view = is; steps = visits })
@@ -152,13 +152,13 @@ no_target false t none = none
 -- A LOOK in an arrival that waits, from the view l at the place where it looks
 module _ {C : Type 0} (b ph : ℕ) (v l w : WaitView C) (found : Record) (heeds : Bool) (before look : List Made) (at : l ≡ stands v (Taking (job.Notice b ph) ∷ []) (Some b) heeds before) (was : w ≡ visited (job.Notice b ph) found l look) where
   -- the phase has passed, and it leaves the list
-  returning : (passed : has_passed ph found ≡ true) → w ≡ record v { place = Returning b ph ∷ []; steps = v.steps ++ (before ++ look); target = Some b; heeds = heeds; attached = at_phase b (ph + 1) v.attached; elections = cond (found.elected == ph + 1) v.elections ((b, ph + 1) ∷ v.elections) }
+  returning : (passed : has_passed ph found ≡ true) → w ≡ record v { place = Returning b ph ∷ []; steps = v.steps ++ (before ++ look); target = Some b; heeds = heeds; attached = at_phase b (ph + 1) v.attached; elections = cond (found.elected == ph + 1) v.elections ((b, ph + 1) ∷ v.elections); passed = (b, ph) ∷ v.passed }
   returning passed = was ∙ ((λ i. visited (job.Notice b ph) found (at i) look)
-      ∙ (λ i. record v { place = cond (passed i) (Returning b ph ∷ []) (Dozing b ph ∷ []); steps = append_assoc v.steps before look i; target = Some b; heeds = heeds; attached = cond (passed i) (at_phase b (ph + 1) v.attached) v.attached; elections = cond (passed i) (cond (found.elected == ph + 1) v.elections ((b, ph + 1) ∷ v.elections)) v.elections }))
+      ∙ (λ i. record v { place = cond (passed i) (Returning b ph ∷ []) (Dozing b ph ∷ []); steps = append_assoc v.steps before look i; target = Some b; heeds = heeds; attached = cond (passed i) (at_phase b (ph + 1) v.attached) v.attached; elections = cond (passed i) (cond (found.elected == ph + 1) v.elections ((b, ph + 1) ∷ v.elections)) v.elections; passed = cond (passed i) ((b, ph) ∷ v.passed) v.passed }))
 
-  pub left_list : has_passed ph found ≡ true → (x : WaitView C) (leave : List Made) (elected : Bool) → elected ≡ not (found.elected == ph + 1) → x ≡ stands w (resumed w.place) None w.heeds leave → x ≡ ended v (at_phase b (ph + 1) v.attached) (won elected b (ph + 1) v.elections) None heeds (before ++ (look ++ leave))
+  pub left_list : has_passed ph found ≡ true → (x : WaitView C) (leave : List Made) (elected : Bool) → elected ≡ not (found.elected == ph + 1) → x ≡ stands w (resumed w.place) None w.heeds leave → x ≡ ended v (at_phase b (ph + 1) v.attached) (won elected b (ph + 1) v.elections) ((b, ph) ∷ v.passed) None heeds (before ++ (look ++ leave))
   left_list passed x leave elected is left = let r = returning passed in left ∙ ((λ i. stands (r i) (resumed (r i).place) None (r i).heeds leave)
-      ∙ (λ i. record v { place = []; steps = steps_are i; target = None; heeds = heeds; attached = at_phase b (ph + 1) v.attached; elections = (by_elected (found.elected == ph + 1) ∙ ap (λ (e : Bool). won e b (ph + 1) v.elections) (sym is)) i }))
+      ∙ (λ i. record v { place = []; steps = steps_are i; target = None; heeds = heeds; attached = at_phase b (ph + 1) v.attached; elections = (by_elected (found.elected == ph + 1) ∙ ap (λ (e : Bool). won e b (ph + 1) v.elections) (sym is)) i; passed = (b, ph) ∷ v.passed }))
     where
       steps_are : (v.steps ++ (before ++ look)) ++ leave ≡ v.steps ++ (before ++ (look ++ leave))
       steps_are = append_assoc v.steps (before ++ look) leave ∙ ap (λ (m : List Made). v.steps ++ m) (append_assoc before look leave)
@@ -173,7 +173,7 @@ module _ {C : Type 0} (b ph : ℕ) (v l w : WaitView C) (found : Record) (heeds 
     where
       dozing : w ≡ record v { place = Dozing b ph ∷ []; steps = v.steps ++ (before ++ look); target = Some b; heeds = heeds }
       dozing = was ∙ ((λ i. visited (job.Notice b ph) found (at i) look)
-          ∙ (λ i. record v { place = cond (stays i) (Returning b ph ∷ []) (Dozing b ph ∷ []); steps = append_assoc v.steps before look i; target = Some b; heeds = heeds; attached = cond (stays i) (at_phase b (ph + 1) v.attached) v.attached; elections = cond (stays i) (cond (found.elected == ph + 1) v.elections ((b, ph + 1) ∷ v.elections)) v.elections }))
+          ∙ (λ i. record v { place = cond (stays i) (Returning b ph ∷ []) (Dozing b ph ∷ []); steps = append_assoc v.steps before look i; target = Some b; heeds = heeds; attached = cond (stays i) (at_phase b (ph + 1) v.attached) v.attached; elections = cond (stays i) (cond (found.elected == ph + 1) v.elections ((b, ph + 1) ∷ v.elections)) v.elections; passed = cond (stays i) ((b, ph) ∷ v.passed) v.passed }))
 
       steps_are : (v.steps ++ (before ++ look)) ++ sleep ≡ v.steps ++ (before ++ (look ++ sleep))
       steps_are = append_assoc v.steps (before ++ look) sleep ∙ ap (λ (m : List Made). v.steps ++ m) (append_assoc before look sleep)

@@ -12,13 +12,13 @@ use Rattle.condition_variable.specs.declared.sleeping.Slept.TheVariants.{Signall
 use Rattle.condition_variable.specs.Calls.{Broadcasts, Cancels, Lists, Sleeps}
 use Rattle.phase_barrier.specs.Visits.{Visits}
 
--- the view of a seat in no call after more steps, with these attachments, elections and this target: nothing else changed, but whether it heeds a signal
-abbrev pub ended : {C : Type 0} → WaitView C → List (ℕ × ℕ) → List (ℕ × ℕ) → Option ℕ → Bool → List Made → WaitView C
-ended v attached elections target heeds more = record v { place = []; steps = v.steps ++ more; attached = attached; elections = elections; target = target; heeds = heeds }
+-- the view of a seat in no call after more steps, with these attachments, elections, phases waited out and this target: nothing else changed, but whether it heeds a signal
+abbrev pub ended : {C : Type 0} → WaitView C → List (ℕ × ℕ) → List (ℕ × ℕ) → List (ℕ × ℕ) → Option ℕ → Bool → List Made → WaitView C
+ended v attached elections passed target heeds more = record v { place = []; steps = v.steps ++ more; attached = attached; elections = elections; passed = passed; target = target; heeds = heeds }
 
 -- the same of a call that only visits the record
 abbrev pub attaching : {C : Type 0} → WaitView C → List (ℕ × ℕ) → List Made → WaitView C
-attaching v attached more = ended v attached v.elections v.target v.heeds more
+attaching v attached more = ended v attached v.elections v.passed v.target v.heeds more
 
 -- the phase passed: the record was visited, and all who were on the list of the barrier's condition were woken
 pub record Passes (own b : ℕ) (begins : Call) (target : Option ℕ) (more : List Made) : Type 0 where
@@ -73,7 +73,7 @@ module _ {C : Type 0} where
     pub below : phase < last_phase
     pub heeds : Bool
     pub more : List Made
-    pub view : w ≡ ended v (at_phase b (phase + 1) v.attached) (won elected b (phase + 1) v.elections) None heeds more
+    pub view : w ≡ ended v (at_phase b (phase + 1) v.attached) (won elected b (phase + 1) v.elections) ((b, phase) ∷ v.passed) None heeds more
     pub steps : ((elected ≡ true) × Passes (number_of v.own) b (call.Arrive b) v.target more) ⊎ WaitsOut (number_of v.own) b v.target more
 
   -- the phase is the one that is never passed: the record was visited, and nothing changed
@@ -87,7 +87,7 @@ module _ {C : Type 0} where
   -- LEAVE. The backend isn't attached any more. Where the phase passed it woke those who waited, and has no target
   pub record Departed (b : ℕ) (begins : Call) (passes : Bool) (v w : WaitView C) : Type 0 where
     pub more : List Made
-    pub view : w ≡ ended v (away_from b v.attached) v.elections (cond passes None v.target) v.heeds more
+    pub view : w ≡ ended v (away_from b v.attached) v.elections v.passed (cond passes None v.target) v.heeds more
     pub steps : DepartsBy passes (number_of v.own) b begins v.target more
 
   -- the backend isn't attached any more; or it was the only one, stays attached, and knows the next phase

@@ -63,7 +63,7 @@ fn wait_out<P: Party, R: Wait>(
     requires place { seat.old.view.place ≡ Taking (job.Notice bar phase) ∷ [] }
     requires known { phase_of seat.old.view.attached bar ≡ Some phase }
     ensures table { (seat.new.table_id ≡ seat.old.table_id) × (seat.new.id ≡ seat.old.id) }
-    ensures out { (heeds : Bool) × (more : List Made) × (seat.new.view ≡ ended seat.old.view (at_phase bar (phase + 1) seat.old.view.attached) (won result bar (phase + 1) seat.old.view.elections) None heeds more) × LooksOut (number_of seat.old.view.own) bar more }
+    ensures out { (heeds : Bool) × (more : List Made) × (seat.new.view ≡ ended seat.old.view (at_phase bar (phase + 1) seat.old.view.attached) (won result bar (phase + 1) seat.old.view.elections) ((bar, phase) ∷ seat.old.view.passed) None heeds more) × LooksOut (number_of seat.old.view.own) bar more }
 {
     for _ in rt.forever() {
         let found = visit(rt, table, seat, bar, Purpose::Notice(phase));
