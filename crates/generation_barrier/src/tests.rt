@@ -1,14 +1,14 @@
-ghost use Rattle.std.specs.Prelude.{◌≡◌, ◌<◌, None};
-ghost use Rattle.signal_core.specs.Machine.{IsJoined};
+//! What no clause says: the words of two emissions step by step, each call once, and threads.
+ghost use Rattle.std.specs.Prelude.{◌≡◌};
 
 use super::*;
 use proc_signal::{emit, join_slot};
-use proc_table::ProcNo;
-use signal_core::{Call, Kinds, SigSeat, SigSeen, SigStep, SigTable};
+use signal_core::{Call, Kinds, SigSeen, SigStep, SigTable};
 use std::process::Abort;
-use std::sync::Wait;
 use std::test::Fail;
-use std::thread::{Threads, join};
+use wait_core::{NoParty, WaitTable};
+
+mod threads;
 
 struct Anything;
 
@@ -17,6 +17,8 @@ impl Kinds for Anything {
 }
 
 type Signals = SigTable<Anything>;
+
+type Waits = WaitTable<NoParty>;
 
 // Answers as told, and counts.
 #[derive(Drop)]
@@ -41,11 +43,14 @@ fn expect<R: Abort>(rt: &R, seen: SigSeen, old: u64)
 }
 
 #[test]
-fn emitted_and_absorbed(rt: HostRuntime) -> Result<(), Fail> {
+fn emitted_absorbed_waited(rt: HostRuntime) -> Result<(), Fail> {
     let Ok((table, mut zero)) = Signals::new(rt.alloc(), 2, 0) else {
         panic!(rt; "no memory")
     };
-    let Ok(mut one) = table.seat(&mut zero) else {
+    let Ok((waits, mut waiter)) = Waits::new(rt.alloc(), NoParty, 2, 74, 1, 0) else {
+        panic!(rt; "no memory")
+    };
+    let (Ok(mut one), Ok(mut teller)) = (table.seat(&mut zero), waits.seat(&mut waiter)) else {
         panic!(rt; "no number")
     };
     assert!(rt; join_slot(&table, &mut one) == 0);
@@ -55,15 +60,36 @@ fn emitted_and_absorbed(rt: HostRuntime) -> Result<(), Fail> {
         asked: 0,
     };
     assert!(rt; absorb(&table, &mut one, &mut takes) == Absorb::Published { generation: 1 });
+    publish_notice(&rt, &table, &one, &waits, &mut teller);
+    wait_for(&rt, &table, &mut zero, &waits, &mut waiter, 1);
     assert!(rt; absorb(&table, &mut one, &mut takes) == Absorb::Idle { generation: 1 });
     assert!(rt; emit(&table, &mut zero, 3, 7).ok() == Some(2));
-    assert!(rt; emit(&table, &mut zero, 5, 7).ok() == Some(3));
-    takes.answer = false;
+    leave_slot(&rt, &table, &mut one, &waits, &mut teller);
+    wait_for(&rt, &table, &mut zero, &waits, &mut waiter, 2);
+    assert!(rt; takes.asked == 1);
+    table.settle(&mut zero);
+    Ok(())
+}
+
+#[test]
+fn kinds_that_fail_are_kept(rt: HostRuntime) -> Result<(), Fail> {
+    let Ok((table, mut zero)) = Signals::new(rt.alloc(), 2, 0) else {
+        panic!(rt; "no memory")
+    };
+    let Ok(mut one) = table.seat(&mut zero) else {
+        panic!(rt; "no number")
+    };
+    join_slot(&table, &mut one);
+    assert!(rt; emit(&table, &mut zero, 3, 7).ok() == Some(1));
+    assert!(rt; emit(&table, &mut zero, 5, 7).ok() == Some(2));
+    let mut takes = Counter {
+        answer: false,
+        asked: 0,
+    };
     assert!(rt; absorb(&table, &mut one, &mut takes) == Absorb::Kept { failed: 40 });
     takes.answer = true;
-    assert!(rt; absorb(&table, &mut one, &mut takes) == Absorb::Published { generation: 3 });
-    assert!(rt; takes.asked == 5);
-    table.settle(&mut zero);
+    assert!(rt; absorb(&table, &mut one, &mut takes) == Absorb::Published { generation: 2 });
+    assert!(rt; takes.asked == 4);
     Ok(())
 }
 
@@ -157,91 +183,5 @@ fn a_worn_header_refuses_emissions(rt: HostRuntime) -> Result<(), Fail> {
     };
     assert_eq!(rt; none.drawn, 1);
     table.close(zero);
-    Ok(())
-}
-
-// Absorbs until it has published the generation, and answers how often it published, and how many
-// kinds it took.
-fn absorb_until<R: Wait>(rt: &R, table: &Signals, mut seat: SigSeat, last: u64) -> (u32, u32)
-    requires table { seat.table_id ≡ table.now.table_id }
-    requires place { (seat.view.place ≡ None) × IsJoined seat.view.slot }
-{
-    let mut takes = Counter {
-        answer: true,
-        asked: 0,
-    };
-    let mut published: u32 = 0;
-    for _ in rt.forever() {
-        if let Absorb::Published { generation } = absorb(table, &mut seat, &mut takes) {
-            published = published.saturating_add(1);
-            if generation >= last {
-                break;
-            }
-        }
-    }
-    (published, takes.asked)
-}
-
-// Reads the generation of a backend until it is at least this one.
-fn look_until<R: Wait>(rt: &R, table: &Signals, seat: &mut SigSeat, of: ProcNo, generation: u64)
-    requires table { (seat.old.table_id ≡ table.now.table_id) × (of < table.now.procs) }
-    requires place { seat.old.view.place ≡ None }
-    ensures { (seat.new.table_id ≡ seat.old.table_id) × (seat.new.view.place ≡ None) }
-{
-    for _ in rt.forever() {
-        let reads = SigStep::Gload(of, Some(Call::Published(of)));
-        if table.step(seat, reads).old >= generation {
-            break;
-        }
-    }
-}
-
-// Emits four kinds in turn, each once the backend has published the one before.
-fn emit_in_turn<R: Wait>(rt: &R, table: &Signals, mut seat: SigSeat, of: ProcNo) -> bool
-    requires table { (seat.table_id ≡ table.now.table_id) × (of < table.now.procs) }
-    requires place { seat.view.place ≡ None }
-{
-    for turn in 0..1000u32 {
-        let Ok(generation) = emit(table, &mut seat, turn % 4, 7) else {
-            return false;
-        };
-        look_until(rt, table, &mut seat, of, generation);
-    }
-    true
-}
-
-fn both<R: Threads + Wait + Sync>(
-    rt: &R,
-    table: &Signals,
-    zero: SigSeat,
-    one: SigSeat,
-    of: ProcNo,
-) -> (bool, (u32, u32))
-    requires table { (zero.table_id ≡ table.now.table_id) × (one.table_id ≡ table.now.table_id) × (of < table.now.procs) }
-    requires place { (zero.view.place ≡ None) × (one.view.place ≡ None) × IsJoined one.view.slot }
-{
-    join(
-        rt,
-        move || -> bool
-            requires { (zero.table_id ≡ table.now.table_id) × (of < table.now.procs) × (zero.view.place ≡ None) }
-        { emit_in_turn(rt, table, zero, of) },
-        move || -> (u32, u32)
-            requires { (one.table_id ≡ table.now.table_id) × (one.view.place ≡ None) × IsJoined one.view.slot }
-        { absorb_until(rt, table, one, 1000) },
-    )
-}
-
-#[test]
-fn each_emission_is_absorbed_once_across_threads(rt: HostRuntime) -> Result<(), Fail> {
-    let Ok((table, mut zero)) = Signals::new(rt.alloc(), 2, 0) else {
-        panic!(rt; "no memory")
-    };
-    let Ok(mut one) = table.seat(&mut zero) else {
-        panic!(rt; "no number")
-    };
-    let of = table.proc_of(&one);
-    join_slot(&table, &mut one);
-    let (emitted, (published, taken)) = both(&rt, &table, zero, one, of);
-    assert!(rt; emitted && published == 1000 && taken == 1000);
     Ok(())
 }
