@@ -50,7 +50,7 @@ fn emitted_absorbed_waited(rt: HostRuntime) -> Result<(), Fail> {
     let Ok((waits, mut waiter)) = Waits::new(rt.alloc(), NoParty, 2, 74, 1, 0) else {
         panic!(rt; "no memory")
     };
-    let (Ok(mut one), Ok(mut teller)) = (table.seat(&mut zero), waits.seat(&mut waiter)) else {
+    let (Ok(mut one), Ok(mut notifier)) = (table.seat(&mut zero), waits.seat(&mut waiter)) else {
         panic!(rt; "no number")
     };
     assert!(rt; join_slot(&table, &mut one) == 0);
@@ -60,11 +60,11 @@ fn emitted_absorbed_waited(rt: HostRuntime) -> Result<(), Fail> {
         asked: 0,
     };
     assert!(rt; absorb(&table, &mut one, &mut takes) == Absorb::Published { generation: 1 });
-    publish_notice(&rt, &table, &one, &waits, &mut teller);
+    publish_notice(&rt, &table, &one, &waits, &mut notifier);
     wait_for(&rt, &table, &mut zero, &waits, &mut waiter, 1);
     assert!(rt; absorb(&table, &mut one, &mut takes) == Absorb::Idle { generation: 1 });
     assert!(rt; emit(&table, &mut zero, 3, 7).ok() == Some(2));
-    leave_slot(&rt, &table, &mut one, &waits, &mut teller);
+    leave_slot(&rt, &table, &mut one, &waits, &mut notifier);
     wait_for(&rt, &table, &mut zero, &waits, &mut waiter, 2);
     assert!(rt; takes.asked == 1);
     table.settle(&mut zero);
