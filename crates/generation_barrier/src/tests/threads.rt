@@ -4,7 +4,6 @@ ghost use Rattle.proc_signal.specs.Signals.{joined_at};
 ghost use Rattle.generation_barrier.specs.Waiting.{HasNotices};
 
 use super::*;
-use signal_core::SigSeat;
 use std::alloc::AllocError;
 use std::sync::Wait;
 use std::sync::atomic::{AtomicU64, Ordering};
