@@ -2,3 +2,4 @@ pub mod Asking
 pub mod HowFar
 pub mod Backing
 pub mod Upto
+pub mod Waits

@@ -1,4 +1,6 @@
-ghost use Rattle.std.specs.Prelude.{◌≡◌, ◌<◌, None};
+//! What no clause says: the words of two emissions step by step, each call once, and threads.
+ghost use Rattle.std.specs.Prelude.{◌≡◌, None, Some};
+ghost use Rattle.signal_core.specs.declared.view.Frame.TheVariants.{Posting, Swapping, Telling};
 ghost use Rattle.signal_core.specs.Machine.{IsJoined};
 
 use super::*;
@@ -6,9 +8,10 @@ use proc_signal::{emit, join_slot};
 use proc_table::ProcNo;
 use signal_core::{Call, Kinds, SigSeat, SigSeen, SigStep, SigTable};
 use std::process::Abort;
-use std::sync::Wait;
 use std::test::Fail;
-use std::thread::{Threads, join};
+use wait_core::{NoParty, WaitTable};
+
+mod threads;
 
 struct Anything;
 
@@ -17,6 +20,8 @@ impl Kinds for Anything {
 }
 
 type Signals = SigTable<Anything>;
+
+type Waits = WaitTable<NoParty>;
 
 // Answers as told, and counts.
 #[derive(Drop)]
@@ -41,11 +46,14 @@ fn expect<R: Abort>(rt: &R, seen: SigSeen, old: u64)
 }
 
 #[test]
-fn emitted_and_absorbed(rt: HostRuntime) -> Result<(), Fail> {
+fn emitted_absorbed_waited(rt: HostRuntime) -> Result<(), Fail> {
     let Ok((table, mut zero)) = Signals::new(rt.alloc(), 2, 0) else {
         panic!(rt; "no memory")
     };
-    let Ok(mut one) = table.seat(&mut zero) else {
+    let Ok((waits, mut waiter)) = Waits::new(rt.alloc(), NoParty, 2, 74, 1, 0) else {
+        panic!(rt; "no memory")
+    };
+    let (Ok(mut one), Ok(mut notifier)) = (table.seat(&mut zero), waits.seat(&mut waiter)) else {
         panic!(rt; "no number")
     };
     assert!(rt; join_slot(&table, &mut one) == 0);
@@ -55,16 +63,95 @@ fn emitted_and_absorbed(rt: HostRuntime) -> Result<(), Fail> {
         asked: 0,
     };
     assert!(rt; absorb(&table, &mut one, &mut takes) == Absorb::Published { generation: 1 });
+    publish_notice(&rt, &table, &one, &waits, &mut notifier);
+    wait_for(&rt, &table, &mut zero, &waits, &mut waiter, 1);
     assert!(rt; absorb(&table, &mut one, &mut takes) == Absorb::Idle { generation: 1 });
     assert!(rt; emit(&table, &mut zero, 3, 7).ok() == Some(2));
-    assert!(rt; emit(&table, &mut zero, 5, 7).ok() == Some(3));
-    takes.answer = false;
-    assert!(rt; absorb(&table, &mut one, &mut takes) == Absorb::Kept { failed: 40 });
-    takes.answer = true;
-    assert!(rt; absorb(&table, &mut one, &mut takes) == Absorb::Published { generation: 3 });
-    assert!(rt; takes.asked == 5);
+    leave_slot(&rt, &table, &mut one, &waits, &mut notifier);
+    wait_for(&rt, &table, &mut zero, &waits, &mut waiter, 2);
+    assert!(rt; takes.asked == 1);
     table.settle(&mut zero);
     Ok(())
+}
+
+#[test]
+fn kinds_that_fail_are_kept(rt: HostRuntime) -> Result<(), Fail> {
+    let Ok((table, mut zero)) = Signals::new(rt.alloc(), 2, 0) else {
+        panic!(rt; "no memory")
+    };
+    let Ok(mut one) = table.seat(&mut zero) else {
+        panic!(rt; "no number")
+    };
+    join_slot(&table, &mut one);
+    assert!(rt; emit(&table, &mut zero, 3, 7).ok() == Some(1));
+    assert!(rt; emit(&table, &mut zero, 5, 7).ok() == Some(2));
+    let mut takes = Counter {
+        answer: false,
+        asked: 0,
+    };
+    assert!(rt; absorb(&table, &mut one, &mut takes) == Absorb::Kept { failed: 40 });
+    takes.answer = true;
+    assert!(rt; absorb(&table, &mut one, &mut takes) == Absorb::Published { generation: 2 });
+    assert!(rt; takes.asked == 4);
+    Ok(())
+}
+
+// An emission tells the first of two backends, who alone is in its slot.
+fn tells<R: Abort>(rt: &R, table: &Signals, seat: &mut SigSeat, first: ProcNo, second: ProcNo)
+    requires table { (seat.old.table_id ≡ table.now.table_id) × (table.now.procs ≡ 2) }
+    requires slots { (first ≡ 0) × (second ≡ 1) }
+    requires place { seat.old.view.place ≡ Some (Telling 0) }
+    ensures table { seat.new.table_id ≡ seat.old.table_id }
+    ensures place { seat.new.view.place ≡ None }
+{
+    expect(rt, table.step(seat, SigStep::Pload(first)), 1);
+    expect(rt, table.step(seat, SigStep::Pend(first)), 0);
+    expect(rt, table.step(seat, SigStep::Pload(second)), 0);
+}
+
+// A backend begins to absorb, and is to swap its mask out.
+fn begins_to_absorb<R: Abort>(rt: &R, table: &Signals, seat: &mut SigSeat, own: ProcNo)
+    requires table { (seat.old.table_id ≡ table.now.table_id) × (seat.old.view.own ≡ Some own) }
+    requires place { (seat.old.view.place ≡ None) × IsJoined seat.old.view.slot }
+    ensures table { seat.new.table_id ≡ seat.old.table_id }
+    ensures place { (seat.new.view.place ≡ Some (Swapping 1)) × IsJoined seat.new.view.slot }
+{
+    let absorbs = Some(Call::Absorb);
+    expect(rt, table.step(seat, SigStep::Pswap(absorbs)), 1);
+    expect(rt, table.step(seat, SigStep::Gload(own, None)), 0);
+    expect(rt, table.step(seat, SigStep::Hload(None)), 1);
+}
+
+// An emission is posted at both slots, which have the kind 3, and takes its generation.
+fn posts_beside<R: Abort>(
+    rt: &R,
+    table: &Signals,
+    seat: &mut SigSeat,
+    first: ProcNo,
+    second: ProcNo,
+)
+    requires table { (seat.old.table_id ≡ table.now.table_id) × (table.now.procs ≡ 2) }
+    requires slots { (first ≡ 0) × (second ≡ 1) }
+    requires place { seat.old.view.place ≡ None }
+    ensures table { seat.new.table_id ≡ seat.old.table_id }
+    ensures place { seat.new.view.place ≡ Some (Telling 0) }
+{
+    let emits = Some(Call::Emit(5, 7));
+    expect(rt, table.step(seat, SigStep::Hload(emits)), 1);
+    expect(rt, table.step(seat, SigStep::Mor(first, 5, None)), 8);
+    expect(rt, table.step(seat, SigStep::Mor(second, 5, None)), 8);
+    expect(rt, table.step(seat, SigStep::Hadd), 1);
+}
+
+// The backend finds both kinds, and publishes what it read before.
+fn publishes_the_older<R: Abort>(rt: &R, table: &Signals, seat: &mut SigSeat)
+    requires table { seat.old.table_id ≡ table.now.table_id }
+    requires place { (seat.old.view.place ≡ Some (Swapping 1)) × IsJoined seat.old.view.slot }
+    ensures table { seat.new.table_id ≡ seat.old.table_id }
+    ensures place { (seat.new.view.place ≡ None) × IsJoined seat.new.view.slot }
+{
+    expect(rt, table.step(seat, SigStep::Mswap(None)), 40);
+    expect(rt, table.step(seat, SigStep::Gstore(1, None)), 0);
 }
 
 #[test]
@@ -79,20 +166,10 @@ fn an_emission_between_two_steps_of_absorb(rt: HostRuntime) -> Result<(), Fail> 
     let q = table.proc_of(&one);
     assert!(rt; join_slot(&table, &mut zero) == 0);
     assert!(rt; emit(&table, &mut one, 3, 7).ok() == Some(1));
-    let absorbs = Some(Call::Absorb);
-    expect(&rt, table.step(&mut zero, SigStep::Pswap(absorbs)), 1);
-    expect(&rt, table.step(&mut zero, SigStep::Gload(p, None)), 0);
-    expect(&rt, table.step(&mut zero, SigStep::Hload(None)), 1);
-    let emits = Some(Call::Emit(5, 7));
-    expect(&rt, table.step(&mut one, SigStep::Hload(emits)), 1);
-    expect(&rt, table.step(&mut one, SigStep::Mor(p, 5, None)), 8);
-    expect(&rt, table.step(&mut one, SigStep::Mor(q, 5, None)), 8);
-    expect(&rt, table.step(&mut one, SigStep::Hadd), 1);
-    expect(&rt, table.step(&mut zero, SigStep::Mswap(None)), 40);
-    expect(&rt, table.step(&mut zero, SigStep::Gstore(1, None)), 0);
-    expect(&rt, table.step(&mut one, SigStep::Pload(p)), 1);
-    expect(&rt, table.step(&mut one, SigStep::Pend(p)), 0);
-    expect(&rt, table.step(&mut one, SigStep::Pload(q)), 0);
+    begins_to_absorb(&rt, &table, &mut zero, p);
+    posts_beside(&rt, &table, &mut one, p, q);
+    publishes_the_older(&rt, &table, &mut zero);
+    tells(&rt, &table, &mut one, p, q);
     let mut takes = Counter {
         answer: false,
         asked: 0,
@@ -102,6 +179,32 @@ fn an_emission_between_two_steps_of_absorb(rt: HostRuntime) -> Result<(), Fail> 
     assert!(rt; emit(&table, &mut one, 3, 7).ok() == Some(3));
     assert!(rt; absorb(&table, &mut zero, &mut takes) == Absorb::Kept { failed: 8 });
     Ok(())
+}
+
+// An emission is posted at the first of two slots.
+fn posts_at_first<R: Abort>(rt: &R, table: &Signals, seat: &mut SigSeat, first: ProcNo)
+    requires table { (seat.old.table_id ≡ table.now.table_id) × (table.now.procs ≡ 2) × (first ≡ 0) }
+    requires place { seat.old.view.place ≡ None }
+    ensures table { seat.new.table_id ≡ seat.old.table_id }
+    ensures place { seat.new.view.place ≡ Some (Posting 0 7 1) }
+{
+    let emits = Some(Call::Emit(0, 7));
+    expect(rt, table.step(seat, SigStep::Hload(emits)), 0);
+    expect(rt, table.step(seat, SigStep::Mor(first, 0, None)), 0);
+}
+
+// The first backend joins its slot, and clears what was posted.
+fn joins<R: Abort>(rt: &R, table: &Signals, seat: &mut SigSeat)
+    requires table { (seat.old.table_id ≡ table.now.table_id) × (seat.old.view.own ≡ Some 0) }
+    requires place { (seat.old.view.place ≡ None) × (seat.old.view.slot ≡ None) }
+    ensures table { seat.new.table_id ≡ seat.old.table_id }
+    ensures place { (seat.new.view.place ≡ None) × IsJoined seat.new.view.slot }
+{
+    let joins = Some(Call::Join);
+    expect(rt, table.step(seat, SigStep::Mswap(joins)), 1);
+    expect(rt, table.step(seat, SigStep::Hload(None)), 0);
+    expect(rt, table.step(seat, SigStep::Gstore(0, None)), u64::MAX);
+    expect(rt, table.step(seat, SigStep::Pstore(1)), 0);
 }
 
 #[test]
@@ -114,23 +217,11 @@ fn a_post_before_the_joiners_clearing(rt: HostRuntime) -> Result<(), Fail> {
     };
     let p = table.proc_of(&zero);
     let q = table.proc_of(&one);
-    let emits = Some(Call::Emit(0, 7));
-    let joins = Some(Call::Join);
-    expect(&rt, table.step(&mut one, SigStep::Hload(emits)), 0);
-    expect(&rt, table.step(&mut one, SigStep::Mor(p, 0, None)), 0);
-    expect(&rt, table.step(&mut zero, SigStep::Mswap(joins)), 1);
-    expect(&rt, table.step(&mut zero, SigStep::Hload(None)), 0);
-    expect(
-        &rt,
-        table.step(&mut zero, SigStep::Gstore(0, None)),
-        u64::MAX,
-    );
-    expect(&rt, table.step(&mut zero, SigStep::Pstore(1)), 0);
+    posts_at_first(&rt, &table, &mut one, p);
+    joins(&rt, &table, &mut zero);
     expect(&rt, table.step(&mut one, SigStep::Mor(q, 0, None)), 0);
     expect(&rt, table.step(&mut one, SigStep::Hadd), 0);
-    expect(&rt, table.step(&mut one, SigStep::Pload(p)), 1);
-    expect(&rt, table.step(&mut one, SigStep::Pend(p)), 0);
-    expect(&rt, table.step(&mut one, SigStep::Pload(q)), 0);
+    tells(&rt, &table, &mut one, p, q);
     let mut takes = Counter {
         answer: false,
         asked: 0,
@@ -157,91 +248,5 @@ fn a_worn_header_refuses_emissions(rt: HostRuntime) -> Result<(), Fail> {
     };
     assert_eq!(rt; none.drawn, 1);
     table.close(zero);
-    Ok(())
-}
-
-// Absorbs until it has published the generation, and answers how often it published, and how many
-// kinds it took.
-fn absorb_until<R: Wait>(rt: &R, table: &Signals, mut seat: SigSeat, last: u64) -> (u32, u32)
-    requires table { seat.table_id ≡ table.now.table_id }
-    requires place { (seat.view.place ≡ None) × IsJoined seat.view.slot }
-{
-    let mut takes = Counter {
-        answer: true,
-        asked: 0,
-    };
-    let mut published: u32 = 0;
-    for _ in rt.forever() {
-        if let Absorb::Published { generation } = absorb(table, &mut seat, &mut takes) {
-            published = published.saturating_add(1);
-            if generation >= last {
-                break;
-            }
-        }
-    }
-    (published, takes.asked)
-}
-
-// Reads the generation of a backend until it is at least this one.
-fn look_until<R: Wait>(rt: &R, table: &Signals, seat: &mut SigSeat, of: ProcNo, generation: u64)
-    requires table { (seat.old.table_id ≡ table.now.table_id) × (of < table.now.procs) }
-    requires place { seat.old.view.place ≡ None }
-    ensures { (seat.new.table_id ≡ seat.old.table_id) × (seat.new.view.place ≡ None) }
-{
-    for _ in rt.forever() {
-        let reads = SigStep::Gload(of, Some(Call::Published(of)));
-        if table.step(seat, reads).old >= generation {
-            break;
-        }
-    }
-}
-
-// Emits four kinds in turn, each once the backend has published the one before.
-fn emit_in_turn<R: Wait>(rt: &R, table: &Signals, mut seat: SigSeat, of: ProcNo) -> bool
-    requires table { (seat.table_id ≡ table.now.table_id) × (of < table.now.procs) }
-    requires place { seat.view.place ≡ None }
-{
-    for turn in 0..1000u32 {
-        let Ok(generation) = emit(table, &mut seat, turn % 4, 7) else {
-            return false;
-        };
-        look_until(rt, table, &mut seat, of, generation);
-    }
-    true
-}
-
-fn both<R: Threads + Wait + Sync>(
-    rt: &R,
-    table: &Signals,
-    zero: SigSeat,
-    one: SigSeat,
-    of: ProcNo,
-) -> (bool, (u32, u32))
-    requires table { (zero.table_id ≡ table.now.table_id) × (one.table_id ≡ table.now.table_id) × (of < table.now.procs) }
-    requires place { (zero.view.place ≡ None) × (one.view.place ≡ None) × IsJoined one.view.slot }
-{
-    join(
-        rt,
-        move || -> bool
-            requires { (zero.table_id ≡ table.now.table_id) × (of < table.now.procs) × (zero.view.place ≡ None) }
-        { emit_in_turn(rt, table, zero, of) },
-        move || -> (u32, u32)
-            requires { (one.table_id ≡ table.now.table_id) × (one.view.place ≡ None) × IsJoined one.view.slot }
-        { absorb_until(rt, table, one, 1000) },
-    )
-}
-
-#[test]
-fn each_emission_is_absorbed_once_across_threads(rt: HostRuntime) -> Result<(), Fail> {
-    let Ok((table, mut zero)) = Signals::new(rt.alloc(), 2, 0) else {
-        panic!(rt; "no memory")
-    };
-    let Ok(mut one) = table.seat(&mut zero) else {
-        panic!(rt; "no number")
-    };
-    let of = table.proc_of(&one);
-    join_slot(&table, &mut one);
-    let (emitted, (published, taken)) = both(&rt, &table, zero, one, of);
-    assert!(rt; emitted && published == 1000 && taken == 1000);
     Ok(())
 }
