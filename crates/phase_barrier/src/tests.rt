@@ -3,6 +3,7 @@
 ghost use Rattle.std.specs.Prelude.{◌≡◌, ◌<◌, [], None, Some};
 ghost use Rattle.wait_core.specs.Parties.{phase_of};
 
+mod runs;
 mod threads;
 
 use super::*;
