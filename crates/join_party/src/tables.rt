@@ -1,6 +1,6 @@
 //! The tables of a parallel join: its lock, its barriers and words, and its signals; and a worker's
 //! seats at them.
-ghost use Rattle.std.specs.Prelude.{◌≡◌, ◌+◌, ◌<◌, ◌≤◌, Some, [], IfOk, IfErr};
+ghost use Rattle.std.specs.Prelude.{◌≡◌, ◌+◌, ◌*◌, ◌<◌, ◌≤◌, Some, [], length, IfOk, IfErr};
 ghost use Rattle.std.specs.Int.{IsPowerOfTwo};
 ghost use Rattle.lw_core.specs.Machine as lock;
 ghost use Rattle.wait_core.specs.Seating as wait;
@@ -8,6 +8,7 @@ ghost use Rattle.signal_core.specs.Seating as signal;
 ghost use Rattle.row_model.specs.declared.Side.{Side};
 ghost use Rattle.join_law.specs.Views.{first_view};
 ghost use Rattle.join_party.specs.Claims.{MayStillEnd};
+ghost use Rattle.join_party.specs.Plans.{IsLeastPowerFrom, batches_for};
 
 use crate::party::HashParty;
 use lw_core::{Guarded, LwSeat, LwTable};
@@ -60,7 +61,24 @@ pub struct JoinSeats<'r> {
     ghost ends: { (side : Side) → MayStillEnd wait.view.client side },
 }
 
-/// The tables of a join of these rows by this plan, and the leader's seats, with the number 0.
+// How many batches so many inner rows make.
+fn batches_for(rows: u32, plan: Plan, many: u32) -> u32
+    requires buckets { plan.buckets ≤ 262144 }
+    requires many { IsPowerOfTwo many × (0 < many) × (many ≤ 64) }
+    ensures batches { result ≡ batches_for rows plan many }
+    ensures power { IsPowerOfTwo result }
+    ensures range { (0 < result) × (result ≤ 64) × (plan.buckets * result ≤ 524288) }
+{
+    if plan.mem < rows && plan.buckets * many <= 524_288 {
+        many
+    } else {
+        1
+    }
+}
+
+/// The tables of a join of these rows by this plan, and the leader's seats, with the number 0. Inner
+/// rows past the plan's budget are in batches from the start, the least power of two that isn't below
+/// two for each worker, unless these and the buckets are too many chains.
 pub fn open_tables<'r>(
     alloc: Global,
     inner: &'r Rows,
@@ -70,20 +88,23 @@ pub fn open_tables<'r>(
     requires workers { (0 < plan.workers) × (plan.workers ≤ 16) }
     requires buckets { IsPowerOfTwo plan.buckets × (plan.buckets ≤ 262144) }
     ensures rows { IfOk result (λ t. (t.0.waits.party.inner ≡ inner.entry) × (t.0.waits.party.outer ≡ outer.entry)) }
-    ensures plan { IfOk result (λ t. (t.0.plan ≡ plan) × (t.0.waits.party.buckets ≡ plan.buckets) × (t.0.waits.party.batches ≡ 1)) }
+    ensures plan { IfOk result (λ t. (t.0.plan ≡ plan) × (t.0.waits.party.buckets ≡ plan.buckets) × (t.0.waits.party.batches ≡ batches_for (length inner.now.rows) plan t.0.waits.party.first_batches)) }
+    ensures batches { IfOk result (λ t. IsLeastPowerFrom (2 * plan.workers) t.0.waits.party.first_batches) }
     ensures lock { IfOk result (λ t. (t.1.lock.table_id ≡ t.0.locks.table_id) × (t.1.lock.view ≡ lock.fresh (Some 0))) }
     ensures wait { IfOk result (λ t. (t.1.wait.table_id ≡ t.0.waits.table_id) × (t.1.wait.view ≡ wait.fresh first_view (Some 0))) }
     ensures signal { IfOk result (λ t. (t.1.signal.table_id ≡ t.0.signals.table_id) × (t.1.signal.view ≡ signal.fresh (Some 0))) }
 {
     // A table tells by its length that it is within its limits.
     let _rows = inner.len() + outer.len();
+    let first_batches = (2 * plan.workers).next_power_of_two();
+    let batches = batches_for(inner.len(), plan, first_batches);
     let party = HashParty {
         inner,
         outer,
-        chains: plan.buckets,
+        chains: plan.buckets * batches,
         buckets: plan.buckets,
-        batches: 1,
-        first_batches: (2 * plan.workers).next_power_of_two(),
+        batches,
+        first_batches,
         grows: false,
     };
     let procs = plan.workers + 1;

@@ -1,7 +1,11 @@
-//! The tables at the limits of a plan, and a worker too many at each of them. Seats at the join's
-//! words are forgotten, since no function that lets one go is proved.
+//! The tables at the limits of a plan, a worker too many at each of them, and the claiming of rows.
+//! Seats at the join's words are forgotten, since no function that lets one go is proved.
 ghost use Rattle.std.specs.Prelude.{◌≡◌, ◌+◌, [], Some};
+ghost use Rattle.wait_core.specs.Seating.{fresh};
+ghost use Rattle.join_law.specs.Views.{first_view};
 ghost use Rattle.join_party.specs.Workers.{IsAt, IsNumbered};
+
+mod claiming;
 
 use super::*;
 use proc_table::NoMoreProcs;
@@ -11,11 +15,15 @@ use std::mem;
 use std::process::Abort;
 use std::test::Fail;
 
-// A table without a row.
-fn no_rows(alloc: Global) -> Result<Rows, RecordFault> {
+// A table of so many rows, all alike.
+fn some_rows(alloc: Global, count: u32) -> Result<Rows, RecordFault> {
     let mut builder = RowsBuilder::new(alloc, b"key")?;
     builder.push_field(b"key")?;
     builder.end_record()?;
+    for _ in 0..count {
+        builder.push_field(b"a")?;
+        builder.end_record()?;
+    }
     builder.finish()
 }
 
@@ -27,7 +35,7 @@ fn open<'r, R: Abort>(
     buckets: u32,
 ) -> (JoinTables<'r>, JoinSeats<'r>)
     ensures seats { IsAt result.0 result.1 × IsNumbered result.1 0 0 0 }
-    ensures idle { result.1.wait.view.place ≡ [] }
+    ensures fresh { result.1.wait.view ≡ fresh first_view (Some 0) }
     ensures plan { result.0.plan.workers ≡ workers }
 {
     assert!(rt; 0 < workers && workers <= 16 && buckets <= 262_144);
@@ -71,11 +79,22 @@ fn draw_all<'r, R: Abort>(
 
 #[test]
 fn tables_have_room_for_each_worker_of_the_plan(rt: HostRuntime) -> Result<(), Fail> {
-    let rows = no_rows(rt.alloc())?;
-    for (workers, buckets) in [(1, 1), (1, 262_144), (16, 1), (16, 262_144)] {
+    let cases = [
+        (1, 1, 1, 1),
+        (1, 1, 2, 2),
+        (3, 1, 2, 8),
+        (16, 1, 2, 32),
+        (16, 16_384, 2, 32),
+        (16, 32_768, 2, 1),
+        (1, 262_144, 2, 2),
+        (16, 262_144, 1, 1),
+    ];
+    for (workers, buckets, count, batches) in cases {
+        let rows = some_rows(rt.alloc(), count)?;
         let (tables, mut leader) = open(&rt, rt.alloc(), &rows, workers, buckets);
         assert_eq!(rt; tables.plan.workers, workers);
         assert_eq!(rt; tables.plan.buckets, buckets);
+        assert_eq!(rt; tables.waits.party().batches, batches);
         let drawn = draw_all(&rt, &tables, &mut leader, workers);
         assert_eq!(rt; drawn, u64::from(workers) + 1);
         mem::forget(leader);
@@ -117,7 +136,7 @@ fn fill<'r, R: Abort>(rt: &R, tables: &JoinTables<'r>, leader: &mut JoinSeats<'r
 
 #[test]
 fn a_full_table_refuses_a_worker(rt: HostRuntime) -> Result<(), Fail> {
-    let rows = no_rows(rt.alloc())?;
+    let rows = some_rows(rt.alloc(), 0)?;
     for full in [Full::Locks, Full::Waits, Full::Signals] {
         let (tables, mut leader) = open(&rt, rt.alloc(), &rows, 1, 1);
         fill(&rt, &tables, &mut leader, full);
