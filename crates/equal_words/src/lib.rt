@@ -5,6 +5,9 @@ ghost use Rattle.std.specs.Prelude.{◌≡◌, ℕ};
 ghost use Rattle.equal_words.specs.declared.Move.{Move};
 ghost use Rattle.equal_words.specs.declared.Progress.{Progress};
 
+mod runs;
+
+pub use runs::{Reading, add_both, arrive_and_read, read_both, take_part, the_barrier};
 use wait_core::{ClientOp, Party};
 
 /// What a seat has done. No value of it is made.
