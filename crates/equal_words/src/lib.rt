@@ -6,6 +6,8 @@ ghost use Rattle.equal_words.specs.declared.Move.{Move};
 ghost use Rattle.equal_words.specs.declared.Progress.{Progress};
 
 mod runs;
+#[cfg(test)]
+mod tests;
 
 pub use runs::{Reading, add_both, arrive_and_read, read_both, take_part, the_barrier};
 use wait_core::{ClientOp, Party};
