@@ -1,11 +1,16 @@
 -- What a seat may do, and the law of the two words.
 use mathlib.Core.Option as maybe
 use lib.ListN.{get_elem?}
-use Rattle.std.specs.Prelude.{◌≡◌, ℕ, ◌+◌, ◌<◌, ◌≤◌, List, length, Some, slice_index}
+use Rattle.std.specs.Prelude.{◌≡◌, ℕ, ◌+◌, ◌<◌, ◌≤◌, ⊤, List, length, Some, slice_index}
 use Rattle.wait_core.specs.declared.party.ClientOp.{ClientOp}
 use Rattle.wait_core.specs.declared.party.ClientOp.TheVariants.{Add, Load}
 use Rattle.wait_core.specs.declared.view.PartyView.{PartyView}
+use Rattle.wait_core.specs.declared.view.WaitView.{WaitView}
+use Rattle.wait_core.specs.Closing.{Stood}
+use Rattle.wait_core.specs.Meanings.{Meanings}
 use Rattle.wait_core.specs.Parties.{now, phase_of}
+use Rattle.wait_core.specs.Seating.{party_of}
+use Rattle.wait_core.specs.Seats.{TableView}
 use Rattle.seat_roster.specs.Totals.{total}
 use Rattle.equal_words.specs.declared.Move.{Move}
 use Rattle.equal_words.specs.declared.Move.TheVariants.{AddFirst, AddSecond, LookFirst, LookSecond}
@@ -79,3 +84,11 @@ pub record Lawful (words : List ℕ) (views : List (PartyView Progress)) (phases
   pub inside : (id : ℕ) (v : PartyView Progress) → get_elem? views id ≡ maybe.some v → IsInside phases v
   pub equal : 0 < now phases 0 → slice_index words 0 ≡ slice_index words 1
   pub read : (id : ℕ) (v : PartyView Progress) → get_elem? views id ≡ maybe.some v → HasRead words phases v
+
+-- any seat may attach at any time, and each that is quiet may leave
+abbrev pub meanings : Meanings Progress
+meanings = record { holds = Lawful; quiet = IsQuiet; passes = Passes; enters = λ _ _. ⊤; stays = λ _ _. ⊥ }
+
+-- past phase 0 the seat read n in the word at a place, in a state that meets the rule
+abbrev pub Reads : {P : Type 0} → TableView P → ℕ → ℕ → ℕ → Type 0
+Reads t id at n = (v : WaitView Progress) × IsPast (party_of v) × Stood meanings 2 t id v at n

@@ -40,9 +40,8 @@ impl Party for EqualWords {
 
     type View = Progress;
 
-    ghost use Rattle.std.specs.Prelude.{⊤};
     ghost use Rattle.equal_words.specs.declared.Progress.TheVariants.{Fresh, Done};
-    ghost use Rattle.equal_words.specs.Turns.{move_op, MayMove, moved, IsQuiet, Passes, Lawful};
+    ghost use Rattle.equal_words.specs.Turns.{move_op, MayMove, moved, meanings};
     ghost use Rattle.equal_words.specs.Laws.{move_inside, move_keeps, draw_keeps_law, join_keeps_law, enter_keeps_law, notice_keeps_law, elect_keeps_law, pass_keeps_law, leave_keeps_law};
 
     ghost word_count = { λ _. 2 };
@@ -62,9 +61,7 @@ impl Party for EqualWords {
 
     ghost after = { λ _ v m n. moved m n };
 
-    // Any seat may attach, at any time: who is in between is attached to barrier 0 already, so
-    // the law doesn't see who comes.
-    ghost means = { λ _. record { holds = Lawful; quiet = IsQuiet; passes = Passes; enters = λ _ _. ⊤; stays = λ _ _. ⊥ } };
+    ghost means = { λ _. meanings };
 
     ghost step_inside = { λ p v m may. move_inside m };
 

@@ -5,7 +5,7 @@ ghost use Rattle.wait_core.specs.Parties.{phase_of};
 ghost use Rattle.wait_core.specs.Seating.{party_of};
 ghost use Rattle.phase_barrier.specs.Calls.{won};
 ghost use Rattle.equal_words.specs.declared.Progress.TheVariants.{Fresh, Done, Read};
-ghost use Rattle.equal_words.specs.Turns.{IsAt, IsPast};
+ghost use Rattle.equal_words.specs.Turns.{IsAt, IsPast, Reads};
 
 use crate::{EqualWords, Move};
 use phase_barrier::{arrive_and_wait, attach};
@@ -56,6 +56,7 @@ pub fn read_both(table: &Table, seat: &mut Seat) -> (u64, u64)
     requires past { IsPast (party_of seat.old.view) }
     ensures table { (seat.new.table_id ≡ seat.old.table_id) × (seat.new.id ≡ seat.old.id) }
     ensures view { seat.new.view ≡ record seat.old.view { client = Read result.1 } }
+    ensures read { Reads table.now seat.old.id 0 result.0 × Reads table.now seat.old.id 1 result.1 }
     ensures equal { result.0 ≡ result.1 }
 {
     let first = table.client(seat, Move::LookFirst).old;
@@ -75,6 +76,7 @@ pub fn arrive_and_read<R: Wait>(rt: &R, table: &Table, seat: &mut Seat) -> Readi
     ensures place { (seat.new.view.place ≡ []) × (seat.new.view.target ≡ None) }
     ensures past { IsAt 1 (party_of seat.new.view) }
     ensures elected { seat.new.view.elections ≡ won result.elected 0 1 seat.old.view.elections }
+    ensures read { Reads table.now seat.old.id 0 result.first × Reads table.now seat.old.id 1 result.second }
     ensures equal { result.first ≡ result.second }
 {
     let Ok(elected) = arrive_and_wait(rt, table, seat, the_barrier()) else {
@@ -98,6 +100,8 @@ pub fn take_part<R: Wait>(rt: &R, table: &Table, seat: &mut Seat) -> Reading
     requires fresh { (phase_of seat.old.view.attached 0 ≡ None) × (seat.old.view.client ≡ Fresh) }
     ensures table { (seat.new.table_id ≡ seat.old.table_id) × (seat.new.id ≡ seat.old.id) }
     ensures past { (seat.new.view.place ≡ []) × IsPast (party_of seat.new.view) }
+    ensures elected { seat.new.view.elections ≡ won result.elected 0 1 seat.old.view.elections }
+    ensures read { Reads table.now seat.old.id 0 result.first × Reads table.now seat.old.id 1 result.second }
     ensures equal { result.first ≡ result.second }
 {
     if attach(rt, table, seat, the_barrier()) == 0 {

@@ -74,6 +74,12 @@ fn all_read_what_four_have_added(rt: HostRuntime) -> Result<(), Fail> {
     }
     assert!(rt; readings.iter().filter(|reading| reading.elected).count() == 1);
     let late = take_part(&rt, &table, &mut zero);
-    assert!(rt; late == Reading { elected: false, first: 4, second: 4 });
+    assert!(rt;
+        late == Reading {
+            elected: false,
+            first: 4,
+            second: 4
+        }
+    );
     Ok(())
 }
