@@ -8,14 +8,13 @@ use Rattle.atomic_table.proofs.Lists.{set_else}
 use Rattle.wait_core.specs.Ops.{op_at, op_gives}
 use Rattle.wait_core.specs.Parties.{now, phase_of, with_client, newcomer, joined, left_over, elected, IsStep, IsJoin, IsEnter, IsNotice, IsElection, IsPass, IsLeave}
 use Rattle.wait_core.specs.declared.view.PartyView.{PartyView}
-use Rattle.seat_roster.specs.Totals.{total}
 use Rattle.seat_roster.proofs.Totals.{total_set, total_snoc, total_none}
 use Rattle.seat_roster.proofs.Stretches.{each_set, each_more}
 use Rattle.equal_words.specs.declared.Move.{Move}
 use Rattle.equal_words.specs.declared.Move.TheVariants.{AddFirst, AddSecond, LookFirst, LookSecond}
 use Rattle.equal_words.specs.declared.Progress.{Progress}
 use Rattle.equal_words.specs.declared.Progress.TheVariants.{Fresh, Between, Done, Read}
-use Rattle.equal_words.specs.Turns.{move_op, IsAt, IsPast, MayMove, moved, IsQuiet, Passes, is_fresh, is_between, fresh_of, between_of, IsInside, HasRead, Lawful}
+use Rattle.equal_words.specs.Turns.{move_op, IsPast, MayMove, moved, IsQuiet, Passes, is_fresh, is_between, fresh_of, between_of, IsInside, HasRead, Lawful}
 
 abbrev V : Type 0
 V = PartyView Progress
