@@ -16,6 +16,16 @@ type Table = WaitTable<EqualWords>;
 
 type Seat = WaitSeat<EqualWords>;
 
+// A seat that is attached to nothing yet.
+#[derive(Drop)]
+struct Newcomer<'t> {
+    table: &'t Table,
+    seat: Seat,
+    ghost seated: { (seat.table_id ≡ table.now.table_id) × (0 < table.now.bars) },
+    ghost idle: { (seat.view.place ≡ []) × (seat.view.target ≡ None) },
+    ghost fresh: { (seat.view.attached ≡ []) × (seat.view.client ≡ Fresh) },
+}
+
 // Attached in phase 0, and has added to neither word.
 #[derive(Drop)]
 struct Worker<'t> {
@@ -26,36 +36,41 @@ struct Worker<'t> {
     ghost turn: { IsAt 0 (party_of seat.view) × (seat.view.client ≡ Fresh) },
 }
 
-fn draw<R: Abort>(rt: &R, table: &Table, zero: &mut Seat) -> Seat
-    requires { (zero.old.table_id ≡ table.now.table_id) × (zero.old.view.own ≡ Some 0) }
-    ensures zero { (zero.new.table_id ≡ table.now.table_id) × (zero.new.view.own ≡ Some 0) }
+fn draw<'t, R: Abort>(rt: &R, table: &'t Table, zero: &mut Seat) -> Newcomer<'t>
+    requires table { (zero.old.table_id ≡ table.now.table_id) × (0 < table.now.bars) }
+    requires zero { zero.old.view.own ≡ Some 0 }
+    ensures table { zero.new.table_id ≡ zero.old.table_id }
+    ensures zero { zero.new.view.own ≡ Some 0 }
     ensures idle { (zero.new.view.place ≡ zero.old.view.place) × (zero.new.view.target ≡ zero.old.view.target) }
-    ensures turn { (zero.new.view.attached ≡ zero.old.view.attached) × (zero.new.view.client ≡ zero.old.view.client) }
-    ensures drawn { (result.table_id ≡ table.now.table_id) × (result.view.place ≡ []) × (result.view.target ≡ None) × (result.view.attached ≡ []) × (result.view.client ≡ Fresh) }
+    ensures fresh { (zero.new.view.attached ≡ zero.old.view.attached) × (zero.new.view.client ≡ zero.old.view.client) }
 {
     let Ok(seat) = table.seat(zero) else {
         panic!(rt; "no number")
     };
-    seat
+    Newcomer { table, seat }
 }
 
-fn begin<'t, R: Abort + Wait>(rt: &R, table: &'t Table, mut seat: Seat) -> Worker<'t>
-    requires table { (seat.table_id ≡ table.now.table_id) × (0 < table.now.bars) }
-    requires idle { (seat.view.place ≡ []) × (seat.view.target ≡ None) }
-    requires fresh { (seat.view.attached ≡ []) × (seat.view.client ≡ Fresh) }
-{
+fn begin<'t, R: Abort + Wait>(rt: &R, newcomer: Newcomer<'t>) -> Worker<'t> {
+    let Newcomer { table, mut seat } = newcomer;
     if attach(rt, table, &mut seat, the_barrier()) != 0 {
         panic!(rt; "the phase has passed")
     }
     Worker { table, seat }
 }
 
-fn work<R: Wait>(rt: &R, worker: Worker<'_>) -> Reading
-    ensures { result.first ≡ result.second }
-{
+fn work<R: Wait>(rt: &R, worker: Worker<'_>) -> Reading {
     let Worker { table, mut seat } = worker;
     add_both(table, &mut seat);
     arrive_and_read(rt, table, &mut seat)
+}
+
+fn come<R: Wait>(rt: &R, newcomer: Newcomer<'_>) -> Reading {
+    let Newcomer { table, mut seat } = newcomer;
+    take_part(rt, table, &mut seat)
+}
+
+fn elected(readings: &[Reading]) -> usize {
+    readings.iter().filter(|reading| reading.elected).count()
 }
 
 #[test]
@@ -65,14 +80,13 @@ fn all_read_what_four_have_added(rt: HostRuntime) -> Result<(), Fail> {
     };
     let mut workers = Vec::new(rt.alloc());
     for _ in 0..4u32 {
-        let seat = draw(&rt, &table, &mut zero);
-        workers.push(begin(&rt, &table, seat))?;
+        workers.push(begin(&rt, draw(&rt, &table, &mut zero)))?;
     }
     let readings = thread::map_vec(&rt, workers, &|worker| work(&rt, worker))?;
     for reading in &readings {
         assert!(rt; (reading.first, reading.second) == (4, 4));
     }
-    assert!(rt; readings.iter().filter(|reading| reading.elected).count() == 1);
+    assert!(rt; elected(readings.as_slice()) == 1);
     let late = take_part(&rt, &table, &mut zero);
     assert!(rt;
         late == Reading {
@@ -81,5 +95,23 @@ fn all_read_what_four_have_added(rt: HostRuntime) -> Result<(), Fail> {
             second: 4
         }
     );
+    Ok(())
+}
+
+// Some of them may come when the others have passed the phase.
+#[test]
+fn whoever_comes_reads_equal_words(rt: HostRuntime) -> Result<(), Fail> {
+    let Ok((table, mut zero)) = Table::new(rt.alloc(), EqualWords, 5, 1, 1, 0) else {
+        panic!(rt; "no memory")
+    };
+    let mut newcomers = Vec::new(rt.alloc());
+    for _ in 0..4u32 {
+        newcomers.push(draw(&rt, &table, &mut zero))?;
+    }
+    let readings = thread::map_vec(&rt, newcomers, &|newcomer| come(&rt, newcomer))?;
+    for reading in &readings {
+        assert!(rt; reading.first == reading.second);
+    }
+    assert!(rt; elected(readings.as_slice()) == 1);
     Ok(())
 }
