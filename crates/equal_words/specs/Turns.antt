@@ -31,7 +31,7 @@ IsAt phase v = phase_of v.attached 0 ≡ Some phase
 abbrev pub IsPast : PartyView Progress → Type 0
 IsPast v = (phase : ℕ) × (0 < phase) × IsAt phase v
 
--- in phase 0 a seat adds to the first word and then to the second, once; past it, it may look
+-- in phase 0 a seat adds to the first word and then to the second, once; past that it may look
 abbrev pub MayMove : PartyView Progress → Move → Type 0
 MayMove v AddFirst = IsAt 0 v × (v.client ≡ Fresh)
 MayMove v AddSecond = IsAt 0 v × (v.client ≡ Between)
@@ -45,14 +45,15 @@ moved AddSecond n = Done
 moved LookFirst n = Read n
 moved LookSecond n = Read n
 
--- the one phase that asks for anything is phase 0 of barrier 0: both additions
+-- phase 0 of barrier 0 asks for both additions, and nothing else is asked anywhere
 abbrev pub IsQuiet : PartyView Progress → ℕ → ℕ → Type 0
 IsQuiet v bar phase = bar ≡ 0 → phase ≡ 0 → v.client ≡ Done
 
--- and it is the one that passes
+-- that phase is the one that passes
 abbrev pub Passes : ℕ → ℕ → Type 0
 Passes bar phase = (bar ≡ 0) × (phase ≡ 0)
 
+-- 1 where no addition is made, and 1 where one is
 abbrev pub is_fresh : Progress → ℕ
 is_fresh Fresh = 1
 is_fresh p = 0
@@ -75,7 +76,7 @@ IsInside phases v = v.client ≡ Between → IsAt 0 v × (now phases 0 ≡ 0)
 abbrev pub HasRead : List ℕ → List ℕ → PartyView Progress → Type 0
 HasRead words phases v = (n : ℕ) → v.client ≡ Read n → (0 < now phases 0) × (slice_index words 0 ≡ n)
 
--- the first word is ahead of the second by the seats in between, and past phase 0 there is none: the words are equal, and stay so
+-- the first word is ahead of the second by the seats in between. Past phase 0 there is none: the words are equal, and stay so
 pub record Lawful (words : List ℕ) (views : List (PartyView Progress)) (phases : List ℕ) : Type 0 where
   pub two : length words ≡ 2
   pub ahead : slice_index words 0 ≡ slice_index words 1 + total between_of views

@@ -1,4 +1,5 @@
-//! A client of barriers: in phase 0 each seat adds 1 to both of two words, and past it they are equal.
+//! A client of one barrier: in phase 0 each seat that is attached adds 1 to both of two words, one
+//! after the other, and past that phase they are equal.
 #![tactic(auto)]
 
 ghost use Rattle.std.specs.Prelude.{◌≡◌, ℕ};

@@ -48,8 +48,8 @@ pub fn add_both(table: &Table, seat: &mut Seat)
     table.client(seat, Move::AddSecond);
 }
 
-/// Past phase 0 the seat reads both words, one after the other, while others do as they like. What
-/// it reads is the same.
+/// Past phase 0 the seat reads the first word and then the second, while others do as they like. The
+/// two are equal.
 pub fn read_both(table: &Table, seat: &mut Seat) -> (u64, u64)
     requires table { seat.old.table_id ≡ table.now.table_id }
     requires place { seat.old.view.place ≡ [] }
@@ -65,7 +65,7 @@ pub fn read_both(table: &Table, seat: &mut Seat) -> (u64, u64)
 }
 
 /// A seat that has added to both words arrives, waits until all others who are attached have
-/// arrived or left, and reads both words. What it reads is the same.
+/// arrived or left, and reads both words. The two are equal.
 pub fn arrive_and_read<R: Wait>(rt: &R, table: &Table, seat: &mut Seat) -> Reading
     requires table { seat.old.table_id ≡ table.now.table_id }
     requires barrier { 0 < table.now.bars }
@@ -91,7 +91,7 @@ pub fn arrive_and_read<R: Wait>(rt: &R, table: &Table, seat: &mut Seat) -> Readi
 }
 
 /// The seat takes part from the phase that it finds. In phase 0 it adds to both words and waits for
-/// the others; past it it comes late, and only reads. Either way what it reads is the same.
+/// the others; past that it comes late, and only reads. Either way the two that it reads are equal.
 pub fn take_part<R: Wait>(rt: &R, table: &Table, seat: &mut Seat) -> Reading
     requires table { seat.old.table_id ≡ table.now.table_id }
     requires barrier { 0 < table.now.bars }
