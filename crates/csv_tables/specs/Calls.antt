@@ -1,5 +1,5 @@
 -- Which calls fail of inputs and of a sink in memory, and how much one call moves.
-use Rattle.std.specs.Prelude.{◌≡◌, ℕ, ◌+◌, ◌-◌, ◌^◌, min, Bool, ◌||◌, nat_eq, nat_le, List, [], ◌∷◌, length, Option, None, Some, IsSome, is_none}
+use Rattle.std.specs.Prelude.{◌≡◌, ℕ, ◌+◌, ◌-◌, ◌^◌, min, Bool, ◌||◌, nat_eq, nat_le, List, length, Option, IsSome, is_none}
 use Rattle.std.specs.List.{list_any}
 use Rattle.row_model.specs.declared.Side.{Side}
 use Rattle.csv_tables.specs.Faults.{KeepsSide}

@@ -77,16 +77,6 @@ module _ (j : Join) (m : Memory) (lists : List (List ℕ)) (growth : Option (ℕ
   still_manned : (bar : ℕ) (w : View) → on_bar bar v ≤ on_bar bar w → 1 ≤ total (on_bar bar) views → 1 ≤ total (on_bar bar) (set views id w)
   still_manned bar w more some = let t = total_set (on_bar bar) views id v w at in omega arith
 
-  on_some : (u : View) (bar ph : ℕ) → phase_of u.attached bar ≡ Some ph → on_bar bar u ≡ 1
-  on_some u bar ph e = ap one_if e
-
-  on_most : (u : View) (bar : ℕ) → on_bar bar u ≤ 1
-  on_most u bar = most (phase_of u.attached bar)
-    where
-      most : (o : Option ℕ) → one_if o ≤ 1
-      most None = omega arith
-      most (Some n) = omega arith
-
 -- ATTACHES
 pub enter_keeps : (j : Join) (m : Memory) (lists : List (List ℕ)) (growth : Option (ℕ × ℕ)) (views : List View) (phases : List ℕ) → Parts j m lists growth views phases → (id : ℕ) (v w : View) (bar : ℕ) → IsEnter views phases id v w bar → Enters j v bar
     → Parts j m lists growth (set views id w) phases

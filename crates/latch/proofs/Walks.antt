@@ -1,21 +1,18 @@
 -- The view of a seat along the steps of a call.
-use Rattle.std.proofs.Common.{◌≡◌, ℕ, ◌==◌, ◌≤◌, Bool, true, false, cond, List, [], ◌∷◌, ◌++◌, append-nil, append_assoc, Some, Option, refl, sym, ap, ◌∙◌, subst, arith}
+use Rattle.std.proofs.Common.{◌≡◌, ℕ, ◌==◌, ◌≤◌, Bool, true, false, cond, List, [], ◌∷◌, ◌++◌, append-nil, append_assoc, Some, refl, sym, ap, ◌∙◌, subst, arith}
 use Rattle.wait_core.specs.declared.step.Until.{Until}
-use Rattle.wait_core.specs.declared.step.Until.TheVariants.{LatchOrShutdown}
 use Rattle.wait_core.specs.declared.step.WaitStep.{WaitStep}
 use Rattle.wait_core.specs.declared.view.Frame.{Frame}
-use Rattle.wait_core.specs.declared.view.Frame.TheVariants.{Announcing, Looking, Asleep, Retracting, Stopping, SleepWaiting, Signalling, Rousing}
+use Rattle.wait_core.specs.declared.view.Frame.TheVariants.{Looking, Asleep, Retracting, Stopping}
 use Rattle.wait_core.specs.declared.view.Made.{Made}
 use Rattle.wait_core.specs.declared.view.Size.{Size}
 use Rattle.wait_core.specs.declared.view.WaitView.{WaitView}
-use Rattle.wait_core.specs.declared.step.Call.{Call}
-use Rattle.wait_core.specs.declared.step.Call.TheVariants as call
 use Rattle.wait_core.specs.Jobs.{resumed}
-use Rattle.wait_core.specs.Machine.{Place, top, outer, made, begun, behind_wait, place_after, looked, next, MayBegin, MayLook}
+use Rattle.wait_core.specs.Machine.{Place, top, outer, made, place_after, looked, next}
 use Rattle.wait_core.specs.declared.step.WaitStep.TheVariants.{Sload, Shload}
 use Rattle.latch.specs.declared.wait.Woke.{Woke}
 use Rattle.latch.specs.declared.wait.Woke.TheVariants.{LatchSet, Shutdown}
-use Rattle.latch.specs.Reads.{went, later, ended, IsWaitOf, OnlyWaits, ReadLatch, ReadShutdown, WasRead}
+use Rattle.latch.specs.Reads.{went, later, ended, OnlyWaits, ReadLatch, ReadShutdown, WasRead}
 
 -- where a seat stands that looks at its wake byte
 abbrev pub watches : Until → Bool → Frame
@@ -53,10 +50,6 @@ module _ {C : Type 0} where
 pub clear_or_set : (n : ℕ) → n ≤ 1 → (n ≡ 1 → ⊥) → n ≡ 0
 clear_or_set n most clear = omega (arith, most, clear)
 
-pub may_look : (u : Until) (b : Bool) → MayLook (Some (watches u b))
-may_look u true = tt
-may_look u false = tt
-
 pub found_set : (u : Until) (b : Bool) (p : Place) → looked false (watches u b ∷ p) ≡ Retracting u ∷ p
 found_set u true p = refl
 found_set u false p = refl
@@ -80,27 +73,6 @@ read_later p Shutdown more rest r = (latch_later p 0 more rest r.0, shutdown_lat
 pub only-append : (p : ℕ) (u : Until) (more rest : List Made) → OnlyWaits p u more → OnlyWaits p u rest → OnlyWaits p u (more ++ rest)
 only-append p u [] rest a b = b
 only-append p u (m ∷ more) rest a b = (a.0, only-append p u more rest a.1 b)
-
--- the first look of a call that begins with a wait of this kind
-pub begun_wait : (u : Until) (target : Option ℕ) (c : Call) (clear : Bool) (p : Place) → IsWaitOf u target c → begun c clear p ≡ cond clear (Announcing u ∷ behind_wait c p) (resumed (behind_wait c p))
-begun_wait u target (call.Wait w) clear p is = ap (λ (x : Until). cond clear (Announcing x ∷ p) (resumed p)) is
-begun_wait u target (call.Sleep c) clear p is = ap (λ (x : Until). cond clear (Announcing x ∷ behind_wait (call.Sleep c) p) (resumed (behind_wait (call.Sleep c) p))) (sym is.0)
-begun_wait u target c clear p is = absurd is
-
--- a call that stands inside no other begins where nothing is behind it
-pub wait_idle : (p : Place) → MayBegin (call.Wait LatchOrShutdown) p → p ≡ []
-wait_idle [] ok = refl
-wait_idle (Signalling d q ∷ p) ok = absurd ok
-wait_idle (Rousing d q more ∷ p) ok = absurd ok
-wait_idle (SleepWaiting d ∷ p) ok = absurd ok
-wait_idle (f ∷ p) ok = absurd ok
-
-pub shut_idle : (p : Place) → MayBegin call.Shut p → p ≡ []
-shut_idle [] ok = refl
-shut_idle (Signalling d q ∷ p) ok = absurd ok
-shut_idle (Rousing d q more ∷ p) ok = absurd ok
-shut_idle (SleepWaiting d ∷ p) ok = absurd ok
-shut_idle (f ∷ p) ok = absurd ok
 
 -- where nothing is behind it, a call ends where it began
 pub ends_idle : (p : Place) → p ≡ [] → resumed p ≡ p

@@ -5,7 +5,6 @@ use mathlib.Core.Option as maybe
 use native.Mathlib.Decide.{ℕ_discrete}
 use lib.ListN.{get_elem?}
 use Rattle.seat_roster.specs.Totals.{total}
-use Rattle.seat_roster.specs.Roster as roster
 use Rattle.seat_roster.proofs.Totals.{total_set, total_snoc, total_at, total_le, total_both}
 use Rattle.seat_roster.proofs.Numbers as numbers
 use Rattle.seat_roster.proofs.Stretches.{each_set, each_more}
@@ -26,9 +25,6 @@ owed_times p v = times_on p v.owed
 
 abbrev pub sleeps_between : ℕ → Stance → ℕ
 sleeps_between p v = count_if v.between (is_own p v.own)
-
-abbrev pub downed_times : ℕ → Stance → ℕ
-downed_times p v = roster.times p v.downed
 
 -- what the seats spend for p, and what they earn, in parts
 pub spends_parts : (p : ℕ) (seats : List Stance) → total (spends p) seats ≡ total (owed_times p) seats + (total (sleeps_between p) seats + total (spares p) seats)

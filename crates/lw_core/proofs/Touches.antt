@@ -14,7 +14,7 @@ use Rattle.lw_core.specs.declared.view.Hold.{Hold}
 use Rattle.lw_core.specs.declared.view.Size.{Size}
 use Rattle.lw_core.specs.declared.view.View.{View}
 use Rattle.lw_core.specs.declared.view.Waiter.{Waiter}
-use Rattle.lw_core.specs.Words.{state_at, var_at, guard_at, grant_of, guarded}
+use Rattle.lw_core.specs.Words.{state_at, guard_at, grant_of, guarded}
 use Rattle.lw_core.specs.Machine.{Place, top, outer, not_held, held, hold_in, mode_in, number_of, lock_of, word_of, gripped, on_grant, releasing, let_go, poked_by, next, BeginsRelease, Allowed, fresh, guard_hold}
 use Rattle.lw_core.specs.SeatFits.{PlaceFits}
 use Rattle.lw_core.specs.Rule.{numbers_of}
@@ -111,14 +111,6 @@ guarded_at words l (suc (suc (suc (suc k)))) few = absurd (omega arith)
 -- a state word is none of the guarded ones
 pub guarded_off : (words : List ℕ) (i n l : ℕ) → guarded (set words (state_at i) n) l ≡ guarded words l
 guarded_off words i n l = guarded_same (set words (state_at i) n) words l (λ k few. get_or-set_other words (state_at i) (guard_at l k) n 0 (λ same. omega arith))
-
--- nor is a variable
-pub guarded_off_var : (words : List ℕ) (i n l : ℕ) → guarded (set words (var_at i) n) l ≡ guarded words l
-guarded_off_var words i n l = guarded_same (set words (var_at i) n) words l (λ k few. get_or-set_other words (var_at i) (guard_at l k) n 0 (λ same. omega arith))
-
--- nor is a word behind all locks
-pub guarded_past : (words : List ℕ) (l i n : ℕ) → guard_at l 3 < i → guarded (set words i n) l ≡ guarded words l
-guarded_past words l i n past = guarded_same (set words i n) words l (λ k few. get_or-set_other words i (guard_at l k) n 0 (λ same. omega arith))
 
 pub guarded_set : (words : List ℕ) (l k x : ℕ) → k < 4 → guard_at l 3 < length words → guarded (set words (guard_at l k) x) l ≡ set (guarded words l) k x
 guarded_set words l zero x few inside = λ i. get_or-set_same words (guard_at l 0) x 0 (omega arith) i ∷ off 1 (omega arith) i ∷ off 2 (omega arith) i ∷ off 3 (omega arith) i ∷ []

@@ -1,26 +1,20 @@
 -- What the replay of a script shows of its bytes, and what it leaves written.
-use Rattle.std.proofs.Common.{◌≡◌, ◌∙◌, ◌⊎◌, ℕ, ◌<◌, ◌≤◌, List, length, take, append-nil, Option, Some, None, refl, sym, ap, subst, inl, inr, arith}
+use Rattle.std.proofs.Common.{◌≡◌, ◌∙◌, ◌⊎◌, ℕ, ◌<◌, ◌≤◌, List, length, take, append-nil, Option, Some, None, refl, sym, ap, inl, inr}
 use Rattle.std.specs.Option.{IfSome}
 use Rattle.std.specs.Io.KnownBytes.{Appends}
 use Rattle.std.proofs.lemmas.Bool.{le-ltb, lt-ltb}
 use Rattle.row_model.specs.declared.Side.TheVariants as side
-use Rattle.csv_tables.specs.Faults.{Rose}
 use Rattle.csv_tables.specs.Loading.{input_limit}
 use Rattle.csv_tables.specs.Appending.{AppendsFront, AppendsPart}
 use Rattle.schedule_script.specs.ScriptText.{Answer, Text, BadLine, script_answer}
 use Rattle.pg_sync.specs.declared.status.Status.{Status}
 use Rattle.pg_sync.specs.declared.status.Status.TheVariants as status
-use Rattle.pg_sync.specs.Answer.{Counts, CountsShow, IsQuiet, Leaves, NoneRose, ScriptDecided, ScriptFaultless}
+use Rattle.pg_sync.specs.Answer.{Counts, CountsShow, Leaves, NoneRose, ScriptDecided, ScriptFaultless}
 use Rattle.pg_sync.specs.Schedule.{IsBadAt, IsText, PlayShows, ScriptShows, script_due, script_status, status_of, text_in}
 
 -- the bytes that are told are these, and within the limit
 abbrev pub IsRead : Option (List ℕ) → List ℕ → Type 0
 IsRead told script = IfSome told (λ held. (script ≡ held) × (length held ≤ input_limit))
-
--- what holds of the answer holds of the bytes that are told
-of_told : (P : Answer → Type 0) (told : Option (List ℕ)) (script : List ℕ) (a : Answer) → a ≡ script_answer script → IsRead told script → P a → IfSome told (λ held. (length held ≤ input_limit) × P (script_answer held))
-of_told P None script a e read h = tt
-of_told P (Some held) script a e read h = (read.1, subst P (e ∙ ap script_answer read.0) h)
 
 due_told : (told : Option (List ℕ)) (script : List ℕ) (a : Answer) → a ≡ script_answer script → IsRead told script → (script_due told ≡ None) ⊎ (script_due told ≡ Some (text_in a))
 unfolding script_due
@@ -45,28 +39,6 @@ front-none old new text same = (0, rw same (at_end old))
     at_end (Some xs) = sym (append-nil xs)
 
 module _ (told : Option (List ℕ)) (script : List ℕ) (old new : Option (List ℕ)) (faults faults' : ℕ) (read : IsRead told script) where
-  pub bytes_shown : (a : Answer) (result : Status) → a ≡ script_answer script → PlayShows a old new faults faults' result → ScriptShows told result
-  bytes_shown (Text text) status.Done e h = of_told IsText told script (Text text) e read tt
-  bytes_shown (Text text) status.WriteFault e h = of_told IsText told script (Text text) e read tt
-  bytes_shown (Text text) status.NoMemory e h = tt
-  bytes_shown (Text text) status.Words e h = h
-  bytes_shown (Text text) (status.OpenFault s) e h = absurd h
-  bytes_shown (Text text) (status.ReadFault s) e h = absurd h
-  bytes_shown (Text text) (status.TooLong s) e h = absurd h
-  bytes_shown (Text text) (status.BadInput s f) e h = h
-  bytes_shown (Text text) status.TooManyResults e h = h
-  bytes_shown (Text text) (status.BadScript n) e h = absurd h
-  bytes_shown (BadLine n) (status.BadScript line) e h = of_told (IsBadAt line) told script (BadLine n) e read (sym h.0)
-  bytes_shown (BadLine n) status.NoMemory e h = tt
-  bytes_shown (BadLine n) status.Done e h = absurd h
-  bytes_shown (BadLine n) status.WriteFault e h = absurd h
-  bytes_shown (BadLine n) status.Words e h = h
-  bytes_shown (BadLine n) (status.OpenFault s) e h = absurd h
-  bytes_shown (BadLine n) (status.ReadFault s) e h = absurd h
-  bytes_shown (BadLine n) (status.TooLong s) e h = absurd h
-  bytes_shown (BadLine n) (status.BadInput s f) e h = h
-  bytes_shown (BadLine n) status.TooManyResults e h = h
-
   pub written_shown : (a : Answer) (result : Status) → a ≡ script_answer script → PlayShows a old new faults faults' result → Leaves old new (script_due told) result
   written_shown (Text text) status.Done e h = of_due (λ t. Appends old new t) (script_due told) text (due_told told script (Text text) e read) h.0
   written_shown (Text text) status.WriteFault e h = of_due (λ t. AppendsPart old new t) (script_due told) text (due_told told script (Text text) e read) h.0
@@ -88,29 +60,6 @@ module _ (told : Option (List ℕ)) (script : List ℕ) (old new : Option (List 
   written_shown (BadLine n) (status.TooLong s) e h = absurd h
   written_shown (BadLine n) (status.BadInput s f) e h = absurd h
   written_shown (BadLine n) status.TooManyResults e h = absurd h
-
-pub counts_shown : (before now : Counts) (a : Answer) (old new : Option (List ℕ)) (faults faults' : ℕ) (result : Status) → IsQuiet before now side.Inner → IsQuiet before now side.Outer
-    → PlayShows a old new faults faults' result → CountsShow before now faults faults' result
-counts_shown before now (Text text) old new f g status.Done inner outer h = (inner, outer, h.1)
-counts_shown before now (Text text) old new f g status.WriteFault inner outer h = (inner, outer, h.1)
-counts_shown before now (Text text) old new f g status.NoMemory inner outer h = (inner, outer, h.1)
-counts_shown before now (Text text) old new f g status.Words inner outer h = h
-counts_shown before now (Text text) old new f g (status.OpenFault s) inner outer h = absurd h
-counts_shown before now (Text text) old new f g (status.ReadFault s) inner outer h = absurd h
-counts_shown before now (Text text) old new f g (status.TooLong s) inner outer h = absurd h
-counts_shown before now (Text text) old new f g (status.BadInput s x) inner outer h = absurd h
-counts_shown before now (Text text) old new f g status.TooManyResults inner outer h = absurd h
-counts_shown before now (Text text) old new f g (status.BadScript n) inner outer h = absurd h
-counts_shown before now (BadLine n) old new f g (status.BadScript line) inner outer h = (inner, outer, h.2)
-counts_shown before now (BadLine n) old new f g status.NoMemory inner outer h = (inner, outer, h.1)
-counts_shown before now (BadLine n) old new f g status.Done inner outer h = absurd h
-counts_shown before now (BadLine n) old new f g status.WriteFault inner outer h = absurd h
-counts_shown before now (BadLine n) old new f g status.Words inner outer h = h
-counts_shown before now (BadLine n) old new f g (status.OpenFault s) inner outer h = absurd h
-counts_shown before now (BadLine n) old new f g (status.ReadFault s) inner outer h = absurd h
-counts_shown before now (BadLine n) old new f g (status.TooLong s) inner outer h = absurd h
-counts_shown before now (BadLine n) old new f g (status.BadInput s x) inner outer h = absurd h
-counts_shown before now (BadLine n) old new f g status.TooManyResults inner outer h = absurd h
 
 -- THE ANSWER that the bytes decide
 each-some : (o : Option Status) (P : Status → Type 0) → ((s : Status) → P s) → IfSome o P

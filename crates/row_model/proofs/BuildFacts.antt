@@ -191,18 +191,6 @@ building-ended key ends bytes w column c h some e within =
       column = λ none _. h.column none some;
     }
 
--- a refusal that is kept
-pub building-refused : (key ends bytes : List ℕ) (w column c : ℕ) (old : Option RowFault) (f : RowFault) → IsBuilding key ends bytes w column c old
-    → IsBuilding key ends bytes w column c (Some f)
-building-refused key ends bytes w column c old f h = record {
-  rising = h.rising;
-  whole = h.whole;
-  few = h.few;
-  wide = h.wide;
-  clean = λ e. cc e;
-  column = λ e. cc e;
-}
-
 -- a header of few columns
 header_fault-few : (key : List ℕ) (header : List (List ℕ)) → length header ≤ column_limit → header_fault key header ≡ key_fault key header
 unfolding header_fault

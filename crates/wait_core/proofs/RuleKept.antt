@@ -108,9 +108,6 @@ flags_set z words i x h inside small j some below = dite (ℕ_discrete j i)
     (λ is. let here = ap (λ (n : ℕ). get_or (set words i x) n 0) is ∙ get_or-set_same words i x 0 inside in omega arith)
     (λ ne. let there = get_or-set_other words i j x 0 ne in let old = h j some below in omega arith)
 
-pub flags_apart : (z : Size) (words : List ℕ) (i x : ℕ) → Flags z words → client_base z ≤ i → Flags z (set words i x)
-flags_apart z words i x h out j some below = let there = get_or-set_other words i j x 0 (λ e. omega arith) in let old = h j some below in omega arith
-
 -- a slot that is taken or given back leaves as many
 pub homes_long : (z : Size) (k : WaitStep) (o n : ℕ) (found : Kept) (p : Place) (homes : List (maybe.Option Kept)) → length (homes_after homes (carried k o p) (act_of k n found)) ≡ length homes
 homes_long z (Take x b) o n found p homes = by_word (eqb n 0)

@@ -1,11 +1,11 @@
 -- What calls read, one after the other.
 use Rattle.std.proofs.Common.{◌≡◌, ℕ, List, ◌∷◌, ◌++◌, append_assoc, Option, None, Some, MatchOption, refl, sym, ap, ◌∙◌, subst, ⊎_elim}
-use Rattle.wait_core.specs.declared.step.WaitStep.TheVariants.{Sload, Shload}
+use Rattle.wait_core.specs.declared.step.WaitStep.TheVariants.{Sload}
 use Rattle.wait_core.specs.declared.view.Made.{Made}
 use Rattle.wait_core.specs.declared.view.WaitView.{WaitView}
 use Rattle.wait_core.specs.Machine.{made}
-use Rattle.latch.specs.Reads.{went, later, ReadLatch, ReadShutdown}
-use Rattle.latch.proofs.Walks.{went_through, latch_later, shutdown_later}
+use Rattle.latch.specs.Reads.{went, later, ReadLatch}
+use Rattle.latch.proofs.Walks.{went_through, shutdown_later}
 use Rattle.wait_event_set.specs.declared.set.Event.{Event}
 use Rattle.wait_event_set.specs.declared.set.Event.TheVariants.{Latch, Shutdown}
 use Rattle.wait_event_set.specs.declared.set.Member.{Member}
@@ -17,17 +17,6 @@ later_again v w x more rest was is = went_through v w x v.place v.place more res
 
 latch_sooner : (p n : ℕ) (more rest : List Made) → ReadLatch p n more → ReadLatch p n (more ++ rest)
 latch_sooner p n more rest r = record { before = r.before; begins = r.begins; then = r.then ++ rest; split = ap (λ (l : List Made). l ++ rest) r.split ∙ append_assoc r.before (made (Sload p r.begins) n ∷ r.then) rest }
-
-shutdown_sooner : (n : ℕ) (more rest : List Made) → ReadShutdown n more → ReadShutdown n (more ++ rest)
-shutdown_sooner n more rest r = record { before = r.before; begins = r.begins; then = r.then ++ rest; split = ap (λ (l : List Made). l ++ rest) r.split ∙ append_assoc r.before (made (Shload r.begins) n ∷ r.then) rest }
-
-pub event_sooner : (p n : ℕ) (e : Event) (more rest : List Made) → ReadEvent p e n more → ReadEvent p e n (more ++ rest)
-event_sooner p n Latch more rest r = latch_sooner p n more rest r
-event_sooner p n Shutdown more rest r = shutdown_sooner n more rest r
-
-pub event_later : (p n : ℕ) (e : Event) (more rest : List Made) → ReadEvent p e n rest → ReadEvent p e n (more ++ rest)
-event_later p n Latch more rest r = latch_later p n more rest r
-event_later p n Shutdown more rest r = shutdown_later n more rest r
 
 -- where neither event is ready, no member is
 pub nothing_ready : (p : ℕ) (ms : List Member) (more rest : List Made) → NotReady p Latch ms more → NotReady p Shutdown ms rest → NothingReady p ms (more ++ rest)
