@@ -2,20 +2,27 @@
 ghost use Rattle.std.specs.Prelude.{◌≡◌, ◌<◌, [], None, Some};
 
 use super::*;
+use std::sync::atomic::{AtomicU64, Ordering};
 use std::thread;
 
-// Arrives and waits so often; how often it was elected.
-fn arrive_often<R: Wait>(rt: &R, worker: (There<'_>, u32)) -> u32 {
-    let (mut there, phases) = worker;
-    let mut elected = 0u32;
-    for _ in 0..phases {
+// Arrives and waits so often, and counts its elections among those of all. Whether each was counted
+// before the next phase passed: whoever is elected finds all those before it, and nobody finds more
+// than one behind these.
+fn arrive_often<R: Wait>(rt: &R, worker: (There<'_>, u32, &AtomicU64)) -> bool {
+    let (mut there, phases, elections) = worker;
+    let mut steady = true;
+    for phase in 0..phases {
         let (still, answer) = wait(rt, there);
         there = still;
+        let before = u64::from(phase);
         if answer == Ok(true) {
-            elected = u32::wrapping_add(elected, 1);
+            steady &= elections.fetch_add(1, Ordering::SeqCst) == before;
+        } else {
+            let counted = elections.load(Ordering::SeqCst);
+            steady &= answer.is_ok() && (counted == before || counted == before + 1);
         }
     }
-    elected
+    steady
 }
 
 // So many workers, all attached before any arrives, go through so many phases.
@@ -27,18 +34,16 @@ fn each_phase_elects_one(rt: HostRuntime) -> Result<(), Fail> {
             panic!(rt; "no memory")
         };
         let table = &table;
+        let elections = AtomicU64::new(0);
         let mut arriving = Vec::new(rt.alloc());
         for _ in 0..workers {
             let seat = draw(&rt, table, &mut zero);
             let (there, _) = come(&rt, Away { table, seat, bar });
-            arriving.push((there, phases))?;
+            arriving.push((there, phases, &elections))?;
         }
-        let elected = thread::map_vec(&rt, arriving, &|worker| arrive_often(&rt, worker))?;
-        let mut elections = 0u32;
-        for each in elected.as_slice() {
-            elections = u32::wrapping_add(elections, *each);
-        }
-        assert!(rt; elections == phases);
+        let steady = thread::map_vec(&rt, arriving, &|worker| arrive_often(&rt, worker))?;
+        assert!(rt; steady.as_slice().iter().all(|each| *each));
+        assert_eq!(rt; elections.load(Ordering::SeqCst), u64::from(phases));
         let seat = zero;
         let (_, phase) = come(&rt, Away { table, seat, bar });
         assert!(rt; phase == u64::from(phases));
