@@ -42,7 +42,7 @@ pub fn publish_notice<K: Kinds, P: Party, R: Wait>(
     broadcast(rt, waits, wait_seat, notice_of(own));
 }
 
-/// HasLeft the own slot (`CleanupProcSignalState`): its generation is 2^64 - 1 from then on, so that
+/// Leaves the own slot (`CleanupProcSignalState`): its generation is 2^64 - 1 from then on, so that
 /// nobody waits for it any more, and all who did are woken before the slot is empty.
 pub fn leave_slot<K: Kinds, P: Party, R: Wait>(
     rt: &R,

@@ -1,7 +1,6 @@
 //! Three runs of one to three backends by one thread, step by step: what each step finds, and whether
 //! it writes.
 ghost use Rattle.std.specs.Prelude.{◌≡◌, ◌<◌, ◌==◌, cond, [], ◌∷◌, None, Some, true};
-ghost use Rattle.wait_core.specs.declared.step.Call.TheVariants as call;
 ghost use Rattle.wait_core.specs.declared.step.Until.TheVariants.{Latch};
 ghost use Rattle.wait_core.specs.declared.view.Frame.TheVariants.{Asleep, Dozing, Passing, Returning, Rousing, Settling, SleepWaiting, Taking};
 ghost use Rattle.wait_core.specs.declared.view.Job.TheVariants as job;
@@ -45,12 +44,8 @@ fn attaches<R: Abort>(rt: &R, table: &Barriers, seat: &mut Seat, bar: BarNo, bef
     let found = seat.record_mut();
     assert!(rt; *found == before);
     found.participants = before.participants + 1;
-    line(
-        rt,
-        table.step(seat, WaitStep::Free(Spot::Bar(bar), None)),
-        1,
-        true,
-    );
+    let free = WaitStep::Free(Spot::Bar(bar), None);
+    line(rt, table.step(seat, free), 1, true);
 }
 
 // Arrives at phase 0 after so many of three, and isn't the last.
@@ -66,12 +61,8 @@ fn arrives<R: Abort>(rt: &R, table: &Barriers, seat: &mut Seat, bar: BarNo, arri
     let found = seat.record_mut();
     assert!(rt; *found == record(0, 3, arrived, 0));
     *found = record(0, 3, arrived + 1, 0);
-    line(
-        rt,
-        table.step(seat, WaitStep::Free(Spot::Bar(bar), None)),
-        1,
-        true,
-    );
+    let free = WaitStep::Free(Spot::Bar(bar), None);
+    line(rt, table.step(seat, free), 1, true);
 }
 
 // Goes to the end of the list, finds that the phase hasn't passed, and falls asleep.
@@ -90,12 +81,8 @@ fn falls_asleep<R: Abort>(rt: &R, table: &Barriers, seat: &mut Seat, bar: BarNo,
     list.items.push(own.number());
     let free = WaitStep::Free(Spot::Cv(condition), Some(condition));
     line(rt, table.step(seat, free), 1, true);
-    line(
-        rt,
-        table.step(seat, WaitStep::Take(Spot::Bar(bar), None)),
-        0,
-        true,
-    );
+    let take = WaitStep::Take(Spot::Bar(bar), None);
+    line(rt, table.step(seat, take), 0, true);
     assert!(rt; *seat.record_mut() == record(0, 3, arrived, 0));
     let free = WaitStep::Free(Spot::Bar(bar), Some(condition));
     line(rt, table.step(seat, free), 1, true);
@@ -120,12 +107,8 @@ fn wakes_up<R: Abort>(rt: &R, table: &Barriers, seat: &mut Seat, bar: BarNo)
     line(rt, table.step(seat, WaitStep::Drain), 1, true);
     line(rt, table.step(seat, WaitStep::Sload(own, None)), 1, false);
     line(rt, table.step(seat, WaitStep::Reset(None)), 1, true);
-    line(
-        rt,
-        table.step(seat, WaitStep::Take(Spot::Cv(condition), None)),
-        0,
-        true,
-    );
+    let take = WaitStep::Take(Spot::Cv(condition), None);
+    line(rt, table.step(seat, take), 0, true);
     let list = seat.list();
     assert!(rt; list.items.is_empty());
     list.items.push(own.number());
@@ -143,12 +126,8 @@ fn notices<R: Abort>(rt: &R, table: &Barriers, seat: &mut Seat, bar: BarNo, elec
 {
     let own = seat.proc();
     let condition = condition_of(bar);
-    line(
-        rt,
-        table.step(seat, WaitStep::Take(Spot::Bar(bar), None)),
-        0,
-        true,
-    );
+    let take = WaitStep::Take(Spot::Bar(bar), None);
+    line(rt, table.step(seat, take), 0, true);
     let found = seat.record_mut();
     assert!(rt; *found == record(1, 2, 0, elected));
     *found = record(1, 2, 0, 1);
@@ -159,12 +138,8 @@ fn notices<R: Abort>(rt: &R, table: &Barriers, seat: &mut Seat, bar: BarNo, elec
     let list = seat.list();
     assert!(rt; list.items.as_slice() == [own.number()].as_slice());
     list.items.clear();
-    line(
-        rt,
-        table.step(seat, WaitStep::Free(Spot::Cv(condition), None)),
-        1,
-        true,
-    );
+    let free = WaitStep::Free(Spot::Cv(condition), None);
+    line(rt, table.step(seat, free), 1, true);
 }
 
 // Leaves the barrier, where all others have arrived: the phase passes.
@@ -180,12 +155,8 @@ fn leaves<R: Abort>(rt: &R, table: &Barriers, seat: &mut Seat, bar: BarNo)
     let found = seat.record_mut();
     assert!(rt; *found == record(0, 3, 2, 0));
     *found = record(1, 2, 0, 0);
-    line(
-        rt,
-        table.step(seat, WaitStep::Free(Spot::Bar(bar), None)),
-        1,
-        true,
-    );
+    let free = WaitStep::Free(Spot::Bar(bar), None);
+    line(rt, table.step(seat, free), 1, true);
 }
 
 // Its broadcast finds two on the list, pops the first and stands behind the second.
@@ -211,12 +182,8 @@ fn pops_the_first<R: Abort>(
     list.items.clear();
     list.items.push(second.number());
     list.items.push(own.number());
-    line(
-        rt,
-        table.step(seat, WaitStep::Free(Spot::Cv(condition), None)),
-        1,
-        true,
-    );
+    let free = WaitStep::Free(Spot::Cv(condition), None);
+    line(rt, table.step(seat, free), 1, true);
 }
 
 // It pops the second, which stands before itself.
@@ -229,22 +196,14 @@ fn pops_the_second<R: Abort>(rt: &R, table: &Barriers, seat: &mut Seat, bar: Bar
     let own = seat.proc();
     assert!(rt; own != second);
     let condition = condition_of(bar);
-    line(
-        rt,
-        table.step(seat, WaitStep::Take(Spot::Cv(condition), None)),
-        0,
-        true,
-    );
+    let take = WaitStep::Take(Spot::Cv(condition), None);
+    line(rt, table.step(seat, take), 0, true);
     let list = seat.list();
     assert!(rt; list.items.as_slice() == [second.number(), own.number()].as_slice());
     list.items.clear();
     list.items.push(own.number());
-    line(
-        rt,
-        table.step(seat, WaitStep::Free(Spot::Cv(condition), None)),
-        1,
-        true,
-    );
+    let free = WaitStep::Free(Spot::Cv(condition), None);
+    line(rt, table.step(seat, free), 1, true);
 }
 
 // It pops itself, and ends.
@@ -256,21 +215,13 @@ fn pops_itself<R: Abort>(rt: &R, table: &Barriers, seat: &mut Seat, bar: BarNo)
 {
     let own = seat.proc();
     let condition = condition_of(bar);
-    line(
-        rt,
-        table.step(seat, WaitStep::Take(Spot::Cv(condition), None)),
-        0,
-        true,
-    );
+    let take = WaitStep::Take(Spot::Cv(condition), None);
+    line(rt, table.step(seat, take), 0, true);
     let list = seat.list();
     assert!(rt; list.items.as_slice() == [own.number()].as_slice());
     list.items.clear();
-    line(
-        rt,
-        table.step(seat, WaitStep::Free(Spot::Cv(condition), None)),
-        1,
-        true,
-    );
+    let free = WaitStep::Free(Spot::Cv(condition), None);
+    line(rt, table.step(seat, free), 1, true);
 }
 
 // Sets the latch of the backend that it popped, which is asleep, and wakes it.
@@ -330,22 +281,14 @@ fn leaves_as_the_last<R: Abort>(rt: &R, table: &Barriers, seat: &mut Seat, bar: 
     let found = seat.record_mut();
     assert!(rt; *found == record(0, 1, 0, 0));
     *found = record(1, 0, 0, 0);
-    line(
-        rt,
-        table.step(seat, WaitStep::Free(Spot::Bar(bar), None)),
-        1,
-        true,
-    );
+    let free = WaitStep::Free(Spot::Bar(bar), None);
+    line(rt, table.step(seat, free), 1, true);
     let condition = condition_of(bar);
     let take = WaitStep::Take(Spot::Cv(condition), Some(Call::Broadcast(condition)));
     line(rt, table.step(seat, take), 0, true);
     assert!(rt; seat.list().items.is_empty());
-    line(
-        rt,
-        table.step(seat, WaitStep::Free(Spot::Cv(condition), None)),
-        1,
-        true,
-    );
+    let free = WaitStep::Free(Spot::Cv(condition), None);
+    line(rt, table.step(seat, free), 1, true);
 }
 
 #[test]
@@ -371,12 +314,8 @@ fn finds_it_worn<R: Abort>(rt: &R, table: &Barriers, seat: &mut Seat, bar: BarNo
     line(rt, table.step(seat, take), 0, true);
     let worn = 0x4000_0000_0000_0000;
     assert!(rt; *seat.record_mut() == record(worn, 1, 0, worn));
-    line(
-        rt,
-        table.step(seat, WaitStep::Free(Spot::Bar(bar), None)),
-        1,
-        true,
-    );
+    let free = WaitStep::Free(Spot::Bar(bar), None);
+    line(rt, table.step(seat, free), 1, true);
 }
 
 #[test]
