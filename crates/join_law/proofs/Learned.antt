@@ -1,5 +1,5 @@
 -- What a seat learns from a word that it found.
-use Rattle.std.proofs.Common.{◌≡◌, ℕ, ◌<◌, ◌≤◌, List, true, get_or, sym, ap, ◌∙◌, arith, Some}
+use Rattle.std.proofs.Common.{◌≡◌, ◌⊎◌, ℕ, suc, ◌+◌, ◌<◌, ◌≤◌, List, [], ◌∷◌, true, get_or, refl, sym, ap, ◌∙◌, subst, arith, inl, inr, ⊎_elim, Some}
 use Rattle.seat_roster.specs.Roster.{times}
 use Rattle.wait_core.specs.Ops.{op_at}
 use Rattle.wait_core.specs.Parties.{IsStep}
@@ -9,16 +9,28 @@ use Rattle.join_law.specs.declared.step.HashStep.TheVariants.{Load}
 use Rattle.join_law.specs.declared.step.Look.TheVariants.{Plain, Cursor}
 use Rattle.join_law.specs.declared.step.Look.TheVariants as look
 use Rattle.join_law.specs.declared.step.Word.TheVariants as word
-use Rattle.join_law.specs.Layout.{Join, Inside, sizes_of, place, read, rows}
+use Rattle.join_law.specs.Layout.{Join, Inside, sizes_of, place, read, rows, heads}
 use Rattle.join_law.specs.Routes.{batch_of, chain_at}
-use Rattle.join_law.specs.Phases.{build, batch_bar, RUN, PROBE}
-use Rattle.join_law.specs.Views.{View}
+use Rattle.join_law.specs.Phases.{build, batch_bar, HASH_OUTER, RUN, PROBE, growth_place, known_word}
+use Rattle.join_law.specs.Views.{View, below}
 use Rattle.join_law.specs.declared.view.Known.{Known}
 use Rattle.join_law.specs.Machine.{At, step_op, word_of}
-use Rattle.join_law.specs.Stands.{Stands, at_head}
+use Rattle.join_law.specs.Stands.{Stands, SizesFit, Links, Listed, at_head}
+use Rattle.join_law.proofs.Rows.{one, one_same, listed_total, listed_inside}
+use Rattle.join_law.proofs.SizesInForce.{in_force_later}
+use Rattle.join_law.proofs.TakeHeads.{sizes_while_hashed}
 use Rattle.join_law.proofs.Flat.{flat_read}
 use Rattle.join_law.proofs.Laws.{op_spot, in_range}
 use Rattle.join_law.proofs.Results.{chain_has}
+
+-- a seat works by the sizes that it knows: rows may be put while growths may come, or build is past HASH_INNER
+abbrev pub WorksBySizes : Join → View → Type 0
+WorksBySizes j v = (growth_place j v ≡ true) ⊎ ((ph : ℕ) × (At v build ph) × (HASH_OUTER ≤ ph))
+
+-- a word names the first row of its list, or none
+row_or_end : (nexts : List ℕ) (w : ℕ) (l : List ℕ) → Links nexts w l → (w ≡ 0) ⊎ ((r : ℕ) × (w ≡ suc r) × (1 ≤ times r l))
+row_or_end nexts w [] e = inl e
+row_or_end nexts w (r ∷ rs) e = inr (r, e.0, let o = one_same r r refl in let b : times r (r ∷ rs) ≡ one r r + times r rs = refl in omega arith)
 
 module _ (j : Join) (words : List ℕ) (views : List View) (phases : List ℕ) (h : Stands j words views phases) (id : ℕ) (v : View) (s : IsStep views phases id v) where
   -- a step found the value of its word
@@ -44,6 +56,30 @@ module _ (j : Join) (words : List ℕ) (views : List View) (phases : List ℕ) (
   -- sizes that the seat knows for good are in force
   pub sizes_found : (n : ℕ) (k : Known) → get_or words (op_at (step_op j (Load look.Sizes))) 0 ≡ n → v.client.known ≡ Some k → k.settled ≡ true → n ≡ k.word
   sizes_found n k found known settled = word_found (Load look.Sizes) n found (omega arith) ∙ ((h.parts.known.fits id v s.at k known).settled settled).1
+
+  -- the sizes by which the seat works are in force
+  pub known_in_force : (w : ℕ) → known_word v ≡ Some w → WorksBySizes j v → h.memory.sizes ≡ w
+  known_in_force w known works = ⊎_elim
+      (λ place. sizes_while_hashed j h.memory h.lists h.growth views phases h.parts id v s w known place)
+      (λ later. in_force_later j h.memory.sizes h.growth phases views id v w later.0 h.parts.attached h.parts.known s.at known later.1 later.2) works
+
+  pub known_found : (w n : ℕ) → get_or words (op_at (step_op j (Load (Plain word.Sizes)))) 0 ≡ n → known_word v ≡ Some w → WorksBySizes j v → n ≡ w
+  known_found w n found known works = word_found (Load (Plain word.Sizes)) n found (omega arith) ∙ known_in_force w known works
+
+  -- sizes that are found have room
+  pub sizes_fit_found : (n : ℕ) → get_or words (op_at (step_op j (Load (Plain word.Sizes)))) 0 ≡ n → SizesFit j (sizes_of n)
+  sizes_fit_found n found = subst (λ (w : ℕ). SizesFit j (sizes_of w)) (sym (word_found (Load (Plain word.Sizes)) n found (omega arith))) h.parts.fit
+
+  -- a row in a list is a row
+  pub listed_row : (head r : ℕ) → Listed h.lists head r → r < rows j
+  listed_row head r l = let o = h.parts.place.once r in let t = listed_total h.lists head (listed_inside h.lists head r l) r in let b : 1 ≤ below r (rows j) = omega arith in omega arith
+
+  -- a head is at its end, or names a row
+  pub head_found : (step : HashStep) (head n : ℕ) → word_of j step ≡ word.Head head → head < heads j → get_or words (op_at (step_op j step)) 0 ≡ n → (n ≡ 0) ⊎ ((r : ℕ) × (n ≡ suc r) × (r < rows j))
+  head_found step head n is inside found =
+      let e = word_found step n found (subst (Inside j) (sym is) inside) ∙ ap (read h.memory) is in
+      ⊎_elim (λ none. inl (e ∙ none)) (λ some. inr (some.0, e ∙ some.1, listed_row head some.0 some.2))
+      (row_or_end h.memory.nexts (get_or h.memory.heads head 0) (at_head h.lists head) (h.parts.links.links head inside))
 
   -- an inner row of a batch that the seat probes stands in its chain, once
   pub chain_found : (row x : ℕ) → row < j.inner → j.hash row ≡ Some x → At v build RUN → At v (batch_bar (batch_of (sizes_of h.memory.sizes) x)) PROBE → times row (at_head h.lists (chain_at j (sizes_of h.memory.sizes) x)) ≡ 1
