@@ -1,24 +1,28 @@
 -- What a seat learns from a word that it found.
-use Rattle.std.proofs.Common.{◌≡◌, ◌⊎◌, ℕ, suc, ◌+◌, ◌<◌, ◌≤◌, List, [], ◌∷◌, true, get_or, refl, sym, ap, ◌∙◌, subst, arith, inl, inr, ⊎_elim, Some}
+use Rattle.std.proofs.Common.{◌≡◌, ◌⊎◌, ℕ, suc, ◌+◌, ◌<◌, ◌≤◌, List, [], ◌∷◌, true, get_or, refl, sym, ap, ◌∙◌, subst, arith, inl, inr, ⊎_elim, Some, Option}
 use Rattle.seat_roster.specs.Roster.{times}
 use Rattle.wait_core.specs.Ops.{op_at}
 use Rattle.wait_core.specs.Parties.{IsStep}
 use Rattle.row_model.specs.declared.Side.TheVariants as side
 use Rattle.join_law.specs.declared.step.HashStep.{HashStep}
-use Rattle.join_law.specs.declared.step.HashStep.TheVariants.{Load}
+use Rattle.join_law.specs.declared.step.HashStep.TheVariants.{Load, Take}
 use Rattle.join_law.specs.declared.step.Look.TheVariants.{Plain, Cursor}
 use Rattle.join_law.specs.declared.step.Look.TheVariants as look
 use Rattle.join_law.specs.declared.step.Word.TheVariants as word
 use Rattle.join_law.specs.Layout.{Join, Inside, sizes_of, place, read, rows, heads}
 use Rattle.join_law.specs.Routes.{batch_of, chain_at}
-use Rattle.join_law.specs.Phases.{build, batch_bar, HASH_OUTER, RUN, PROBE, growth_place, known_word}
+use Rattle.join_law.specs.Phases.{build, batch_bar, HASH_OUTER, RUN, LOAD, PROBE, growth_place, known_word}
 use Rattle.join_law.specs.Views.{View, below}
 use Rattle.join_law.specs.declared.view.Known.{Known}
-use Rattle.join_law.specs.Machine.{At, step_op, word_of}
-use Rattle.join_law.specs.Stands.{Stands, SizesFit, Links, Listed, at_head}
+use Rattle.join_law.specs.declared.view.Taking.{Taking}
+use Rattle.join_law.specs.declared.step.Source.{Source}
+use Rattle.join_law.specs.declared.step.Source.TheVariants as from
+use Rattle.join_law.specs.Machine.{At, MayTake, TakeIsReady, May, step_op, word_of}
+use Rattle.join_law.specs.Stands.{Stands, SizesFit, Links, Listed, Frozen, at_head}
 use Rattle.join_law.proofs.Rows.{one, one_same, listed_total, listed_inside}
 use Rattle.join_law.proofs.SizesInForce.{in_force_later}
-use Rattle.join_law.proofs.TakeHeads.{sizes_while_hashed}
+use Rattle.join_law.proofs.TakeKeeps.{OfSource, of_source}
+use Rattle.join_law.proofs.TakeHeads.{sizes_at_batch, sizes_while_hashed}
 use Rattle.join_law.proofs.Flat.{flat_read}
 use Rattle.join_law.proofs.Laws.{op_spot, in_range}
 use Rattle.join_law.proofs.Results.{chain_has}
@@ -80,6 +84,27 @@ module _ (j : Join) (words : List ℕ) (views : List View) (phases : List ℕ) (
       let e = word_found step n found (subst (Inside j) (sym is) inside) ∙ ap (read h.memory) is in
       ⊎_elim (λ none. inl (e ∙ none)) (λ some. inr (some.0, e ∙ some.1, listed_row head some.0 some.2))
       (row_or_end h.memory.nexts (get_or h.memory.heads head 0) (at_head h.lists head) (h.parts.links.links head inside))
+
+  -- a take that met its row found it in the list of its head, and of its source
+  pub taken_found : (t : Taking) (r head next : ℕ) → v.client.taking ≡ Some t → May j v (Take r head next) → get_or words (op_at (step_op j (Take r head next))) 0 ≡ suc r → (Listed h.lists head r) × OfSource j (sizes_of h.memory.sizes) t.source r
+  taken_found t r head next taking may found =
+      let ready = subst (λ (o : Option Taking). TakeIsReady j v o r head next) taking may.1 in
+      let first = word_found (Take r head next) (suc r) found may.0 in
+      let listed : Listed h.lists head r = ⊎_elim (λ none. absurd (omega arith)) (λ some. let is = some.1 in let same : some.0 ≡ r = omega arith in subst (Listed h.lists head) same some.2)
+      (row_or_end h.memory.nexts (get_or h.memory.heads head 0) (at_head h.lists head) (h.parts.links.links head may.0)) in
+      let frozen = subst (λ (k : ℕ). Frozen j (sizes_of h.memory.sizes) phases t.source k t.phase) ready.1 (h.parts.takes.fits id v s.at t taking).frozen in
+      (listed, of_source j h.memory h.lists h.growth views phases h.parts id v s t.source head r t.phase frozen ready.3 listed)
+
+  -- who takes knows the sizes in force
+  pub taking_in_force : (source : Source) (ph w : ℕ) → MayTake j v source ph → known_word v ≡ Some w → h.memory.sizes ≡ w
+  taking_in_force (from.Inner half batch) ph w may known = sizes_at_batch j h.memory h.lists h.growth views phases h.parts id v s batch LOAD w may.0 known
+  taking_in_force (from.Outer batch) ph w may known = sizes_at_batch j h.memory h.lists h.growth views phases h.parts id v s batch PROBE w may.0 known
+  taking_in_force (from.Old bar turn head) ph w may known = sizes_while_hashed j h.memory h.lists h.growth views phases h.parts id v s w known may.3
+
+  pub taken_known : (t : Taking) (r head next w : ℕ) → v.client.taking ≡ Some t → May j v (Take r head next) → get_or words (op_at (step_op j (Take r head next))) 0 ≡ suc r → known_word v ≡ Some w → OfSource j (sizes_of w) t.source r
+  taken_known t r head next w taking may found known =
+      let ready = subst (λ (o : Option Taking). TakeIsReady j v o r head next) taking may.1 in
+      subst (λ (w : ℕ). OfSource j (sizes_of w) t.source r) (taking_in_force t.source t.phase w ready.3 known) (taken_found t r head next taking may found).1
 
   -- an inner row of a batch that the seat probes stands in its chain, once
   pub chain_found : (row x : ℕ) → row < j.inner → j.hash row ≡ Some x → At v build RUN → At v (batch_bar (batch_of (sizes_of h.memory.sizes) x)) PROBE → times row (at_head h.lists (chain_at j (sizes_of h.memory.sizes) x)) ≡ 1
