@@ -1,5 +1,5 @@
 -- The laws of the join as a client of barriers: where everything stands is kept, whatever a seat does.
-use Rattle.std.proofs.Common.{◌≡◌, ℕ, suc, ◌<◌, List, [], ◌∷◌, ◌++◌, get_or, set, refl, sym, ap, ◌∙◌, subst, arith, Some}
+use Rattle.std.proofs.Common.{◌≡◌, ℕ, zero, suc, ◌<◌, List, [], ◌∷◌, ◌++◌, get_or, set, refl, sym, ap, ◌∙◌, subst, arith, Some, get_or-set_same, get_or-set_other}
 use Rattle.wait_core.specs.Ops.{op_at, op_gives}
 use Rattle.wait_core.specs.Parties.{with_client, newcomer, joined, left_over, elected, now, IsStep, IsJoin, IsEnter, IsNotice, IsElection, IsPass, IsLeave}
 use Rattle.join_law.specs.declared.step.HashStep.{HashStep}
@@ -8,8 +8,8 @@ use Rattle.join_law.specs.declared.step.Word.{Word}
 use Rattle.join_law.specs.Layout.{Join, Memory, place, Inside, read, write, word_count}
 use Rattle.join_law.specs.Views.{View, first_view, spent_view, both_views}
 use Rattle.join_law.specs.Machine.{step_op, word_of, spot, May, after}
-use Rattle.join_law.specs.Quiet.{Quiet, Enters, Stays}
-use Rattle.join_law.specs.Stands.{There, Parts, Stands, RowsMeet}
+use Rattle.join_law.specs.Quiet.{Quiet, Passes, Enters, Stays}
+use Rattle.join_law.specs.Stands.{There, Parts, Stands, RowsMeet, BuildEnds}
 use Rattle.join_law.proofs.Flat.{flat_read, flat_write, place_below}
 use Rattle.join_law.proofs.Steps as steps
 use Rattle.join_law.proofs.PassKeeps as pass
@@ -61,6 +61,7 @@ step_keeps j words views phases id v step h s may =
       parts = kept.2;
       left = left_set views h.left id next (numbered_left next s.own.0 s.own.1);
       claims = claimed.step_claims j m h.lists h.growth views phases h.parts h.claims id v s step;
+      ends = h.ends;
     } in
     let after_n : ℕ → ℕ → Type 0 = λ k y. Stands j (set words k (op_gives op y)) (set views id (with_client v (after j v step y))) phases in
     subst (λ (k : ℕ). after_n k (get_or words (op_at op) 0)) (sym at) (subst (after_n (place j w)) (sym found) stands)
@@ -78,6 +79,7 @@ draw_keeps j words views phases proc h =
       parts = seats.draw_keeps j m h.lists h.growth views phases h.parts (Some proc);
       left = left_more views h.left w proc refl;
       claims = claimed.more_claims j m.inner_cursor m.outer_cursor views h.claims w refl;
+      ends = h.ends;
     }
 
 -- a seat takes in another
@@ -94,6 +96,7 @@ join_keeps j words views phases id other v w h s =
       parts = seats.join_keeps j m h.lists h.growth views phases h.parts id other v w s;
       left = left_set (set views id x) (left_set views h.left id x (numbered_left x s.own.0 s.own.1)) other (left_over spent_view) (λ _. refl);
       claims = claimed.join_claims j m.inner_cursor m.outer_cursor views h.claims phases id other v w s;
+      ends = h.ends;
     }
 
 module _ (j : Join) (words : List ℕ) (views : List View) (phases : List ℕ) (h : Stands j words views phases) where
@@ -110,6 +113,7 @@ module _ (j : Join) (words : List ℕ) (views : List View) (phases : List ℕ) (
     parts = parts;
     left = left_same views h.left id v w at own same;
     claims = claimed.same_claims j m.inner_cursor m.outer_cursor views h.claims id v w at same;
+    ends = h.ends;
   }
 
   pub enter_keeps : (id : ℕ) (v w : View) (bar : ℕ) → IsEnter views phases id v w bar → Enters j v bar → Stands j words (set views id w) phases
@@ -124,9 +128,14 @@ module _ (j : Join) (words : List ℕ) (views : List View) (phases : List ℕ) (
   pub leave_keeps : (id : ℕ) (v w : View) (bar ph : ℕ) → IsLeave Stays views phases id v w bar ph → Quiet j v bar ph → Stands j words (set views id w) phases
   leave_keeps id v w bar ph s quiet = attached_keeps id v w s.at s.after.proc s.after.client (moves.leave_keeps j m h.lists h.growth views phases h.parts id v w bar ph s quiet)
 
+  -- a phase of the build passes only before FREE
+  build_ends : (bar : ℕ) → Passes bar (now phases bar) → BuildEnds (set phases bar (suc (now phases bar)))
+  build_ends zero passes = let length_is = h.parts.bars in let is = get_or-set_same phases 0 (suc (now phases 0)) 0 (omega arith) in omega arith
+  build_ends (suc bar) passes = let same = get_or-set_other phases (suc bar) 0 (suc (now phases (suc bar))) 0 (λ e. absurd (omega arith)) in let end = h.ends in omega arith
+
   -- a phase passes
-  pub pass_keeps : (bar id : ℕ) (v : View) → IsPass (Quiet j) views phases bar id v → Stands j words views (set phases bar (suc (now phases bar)))
-  pass_keeps bar id v s = record {
+  pub pass_keeps : (bar id : ℕ) (v : View) → IsPass (Quiet j) views phases bar id v → Passes bar (now phases bar) → Stands j words views (set phases bar (suc (now phases bar)))
+  pass_keeps bar id v s passes = record {
     memory = m;
     lists = h.lists;
     growth = h.growth;
@@ -134,4 +143,5 @@ module _ (j : Join) (words : List ℕ) (views : List View) (phases : List ℕ) (
     parts = pass.pass_keeps j m h.lists h.growth views phases h.parts bar id v s;
     left = h.left;
     claims = h.claims;
+    ends = build_ends bar passes;
   }

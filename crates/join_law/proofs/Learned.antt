@@ -11,7 +11,7 @@ use Rattle.join_law.specs.declared.step.Look.TheVariants as look
 use Rattle.join_law.specs.declared.step.Word.TheVariants as word
 use Rattle.join_law.specs.Layout.{Join, Inside, sizes_of, place, read, rows, heads}
 use Rattle.join_law.specs.Routes.{batch_of, chain_at}
-use Rattle.join_law.specs.Phases.{build, batch_bar, HASH_OUTER, RUN, LOAD, PROBE, growth_place, known_word}
+use Rattle.join_law.specs.Phases.{build, batch_bar, HASH_OUTER, RUN, FREE, LOAD, PROBE, growth_place, known_word}
 use Rattle.join_law.specs.Views.{View, below}
 use Rattle.join_law.specs.declared.view.Known.{Known}
 use Rattle.join_law.specs.declared.view.Taking.{Taking}
@@ -42,6 +42,10 @@ module _ (j : Join) (words : List ℕ) (views : List View) (phases : List ℕ) (
   word_found step n found inside =
       let at : op_at (step_op j step) ≡ place j (word_of j step) = op_spot j step ∙ in_range j (word_of j step) h.parts.meet inside in
       sym found ∙ (ap (λ (k : ℕ). get_or words k 0) at ∙ (ap (λ (l : List ℕ). get_or l (place j (word_of j step)) 0) h.same ∙ flat_read j h.memory h.parts.laid (word_of j step) inside))
+
+  -- the build that the seat is attached to has no phase past FREE
+  pub build_phase_found : (ph : ℕ) → At v build ph → ph ≤ FREE
+  build_phase_found ph on = let end = h.ends in let here = s.here build ph on in omega arith
 
   -- the hash word of the row whose hash the seat knows to be stored is the hash of its key
   pub hash_found : (row n : ℕ) → get_or words (op_at (step_op j (Load (Plain (word.Hash row))))) 0 ≡ n → row < rows j → v.client.hashed ≡ Some row → j.hash row ≡ Some n

@@ -119,4 +119,4 @@ module _ (j : Join) (meet : RowsMeet j) (fit : SizesFit j (first_sizes j)) where
       a ∙ ap (λ l. opened (opens j) 8 ++ l) (sym (ap (λ l. replicate 40 0 ++ l) t ∙ r4))
 
   pub opening_stands : (own : ℕ) → Stands j (opened (opens j) (word_count j)) (newcomer first_view (Some own) ∷ []) (replicate 67 0)
-  opening_stands own = record { memory = m; lists = lists; growth = None; same = words_same; parts = draw_keeps j m lists None [] (replicate 67 0) empty (Some own); left = left_more [] (record { spent = λ id v at. absurd (nobody id v at) }) (newcomer first_view (Some own)) own refl; claims = record { all = omega arith } }
+  opening_stands own = record { memory = m; lists = lists; growth = None; same = words_same; parts = draw_keeps j m lists None [] (replicate 67 0) empty (Some own); left = left_more [] (record { spent = λ id v at. absurd (nobody id v at) }) (newcomer first_view (Some own)) own refl; claims = record { all = omega arith }; ends = let z = at_zero 0 in omega arith }

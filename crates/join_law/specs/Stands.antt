@@ -233,6 +233,10 @@ pub record LeftOver (views : List View) : Type 0 where
 pub record RowsClaimed (j : Join) (inner outer : ℕ) (views : List View) : Type 0 where
   pub all : total claimed_by views ≡ min inner j.inner + min outer j.outer
 
+-- The build never comes past FREE
+abbrev pub BuildEnds : List ℕ → Type 0
+BuildEnds phases = now phases build ≤ FREE
+
 -- all parts together
 pub record Parts (j : Join) (m : Memory) (lists : List (List ℕ)) (growth : Option (ℕ × ℕ)) (views : List View) (phases : List ℕ) : Type 0 where
   pub laid : Laid j m
@@ -264,3 +268,4 @@ pub record Stands (j : Join) (words : List ℕ) (views : List View) (phases : Li
   pub parts : Parts j memory lists growth views phases
   pub left : LeftOver views
   pub claims : RowsClaimed j memory.inner_cursor memory.outer_cursor views
+  pub ends : BuildEnds phases

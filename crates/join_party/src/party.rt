@@ -180,7 +180,7 @@ impl<'r> Party for HashParty<'r> {
 
     ghost elect_keeps = { λ p words views phases id v bar ph h s. laws.elect_keeps (join p) words views phases h id v bar ph s };
 
-    ghost pass_keeps = { λ p words views phases bar id v h s passes. laws.pass_keeps (join p) words views phases h bar id v s };
+    ghost pass_keeps = { λ p words views phases bar id v h s passes. laws.pass_keeps (join p) words views phases h bar id v s passes };
 
     ghost leave_keeps = { λ p words views phases id v w bar ph h s quiet. laws.leave_keeps (join p) words views phases h id v w bar ph s quiet };
 
