@@ -1,6 +1,8 @@
 -- What a seat learns from a word that it found.
 use Rattle.std.proofs.Common.{◌≡◌, ◌⊎◌, ℕ, suc, ◌+◌, ◌<◌, ◌≤◌, List, [], ◌∷◌, true, get_or, refl, sym, ap, ◌∙◌, subst, arith, inl, inr, ⊎_elim, Some, Option}
 use Rattle.seat_roster.specs.Roster.{times}
+use Rattle.seat_roster.specs.Totals.{total}
+use Rattle.seat_roster.proofs.Totals.{total_at}
 use Rattle.wait_core.specs.Ops.{op_at}
 use Rattle.wait_core.specs.Parties.{IsStep}
 use Rattle.row_model.specs.declared.Side.TheVariants as side
@@ -12,12 +14,12 @@ use Rattle.join_law.specs.declared.step.Word.TheVariants as word
 use Rattle.join_law.specs.Layout.{Join, Inside, sizes_of, place, read, rows, heads}
 use Rattle.join_law.specs.Routes.{batch_of, chain_at}
 use Rattle.join_law.specs.Phases.{build, batch_bar, HASH_OUTER, RUN, FREE, LOAD, PROBE, growth_place, known_word}
-use Rattle.join_law.specs.Views.{View, below}
+use Rattle.join_law.specs.Views.{View, below, held}
 use Rattle.join_law.specs.declared.view.Known.{Known}
 use Rattle.join_law.specs.declared.view.Taking.{Taking}
 use Rattle.join_law.specs.declared.step.Source.{Source}
 use Rattle.join_law.specs.declared.step.Source.TheVariants as from
-use Rattle.join_law.specs.Machine.{At, MayTake, TakeIsReady, May, step_op, word_of}
+use Rattle.join_law.specs.Machine.{InHand, At, MayTake, TakeIsReady, May, step_op, word_of}
 use Rattle.join_law.specs.Stands.{Stands, SizesFit, Links, Listed, Frozen, at_head}
 use Rattle.join_law.proofs.Rows.{one, one_same, listed_total, listed_inside}
 use Rattle.join_law.proofs.SizesInForce.{in_force_later}
@@ -81,6 +83,10 @@ module _ (j : Join) (words : List ℕ) (views : List View) (phases : List ℕ) (
   -- a row in a list is a row
   pub listed_row : (head r : ℕ) → Listed h.lists head r → r < rows j
   listed_row head r l = let o = h.parts.place.once r in let t = listed_total h.lists head (listed_inside h.lists head r l) r in let b : 1 ≤ below r (rows j) = omega arith in omega arith
+
+  -- and so is a row in hand
+  pub hand_row : (r : ℕ) → InHand v r → r < rows j
+  hand_row r mine = let o = h.parts.place.once r in let t = total_at (held r) views id v s.at in let b : 1 ≤ below r (rows j) = omega arith in omega arith
 
   -- a head is at its end, or names a row
   pub head_found : (step : HashStep) (head n : ℕ) → word_of j step ≡ word.Head head → head < heads j → get_or words (op_at (step_op j step)) 0 ≡ n → (n ≡ 0) ⊎ ((r : ℕ) × (n ≡ suc r) × (r < rows j))
