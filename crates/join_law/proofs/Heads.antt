@@ -29,14 +29,16 @@ same_batch b c n k l kn ln e = dite (dec_le b c)
     let a' : q + n ≤ p = a in let e' : p + k ≡ q + l = e in absurd (omega arith))
 
 module _ (j : Join) (z : SizesOf) (fit : SizesFit j z) where
-  index_below : (x : ℕ) → batch_of z x * z.buckets + bucket_of z x < j.chains
-  index_below x =
+  pub route_below : (bucket batch : ℕ) → bucket < z.buckets → batch < z.batches → batch * z.buckets + bucket < j.chains
+  route_below bucket batch low few =
       let room = fit.room in
-      let b : ℕ = batch_of z x * z.buckets in
+      let b : ℕ = batch * z.buckets in
       let n : ℕ = z.batches * z.buckets in
       let s : n ≡ z.buckets * z.batches = mul_comm z.batches z.buckets in
-      let f : b + z.buckets ≤ n = further (batch_of z x) z.batches z.buckets (batch_below z x fit.batches) in
-      let k = bucket_below z x fit.buckets in omega arith
+      let f : b + z.buckets ≤ n = further batch z.batches z.buckets few in omega arith
+
+  index_below : (x : ℕ) → batch_of z x * z.buckets + bucket_of z x < j.chains
+  index_below x = route_below (bucket_of z x) (batch_of z x) (bucket_below z x fit.buckets) (batch_below z x fit.batches)
 
   -- half 0 or 1
   half_of : (half : ℕ) → half ≤ 1 → (half * j.chains ≡ 0) ⊎ (half * j.chains ≡ j.chains)

@@ -92,8 +92,8 @@ impl<'r> HashParty<'r> {
         clamp(self.place(word))
     }
 
-    // The head that a source names.
-    fn source_head(&self, source: Source) -> u64
+    /// The head that a source names.
+    pub fn source_head(&self, source: Source) -> u64
         ensures { result ≡ source_head (join self.now) source }
     {
         let chains = 2 * u64::from(self.chains);

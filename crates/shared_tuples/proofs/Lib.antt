@@ -1,0 +1,3 @@
+pub mod Tuples
+pub mod Takes
+pub mod Chains
