@@ -43,6 +43,7 @@ pub record SizesFit (j : Join) (z : SizesOf) : Type 0 where
   pub batches : 1 ≤ z.batches
   pub most : z.batches ≤ 64
   pub room : z.buckets * z.batches ≤ j.chains
+  pub few : z.buckets ≤ 262144
   pub powers : (IsPowerOfTwo z.buckets) × (IsPowerOfTwo z.batches)
 
 -- Each row is unclaimed, in a list, in a hand, set aside, given up or probed, and that once

@@ -1,6 +1,6 @@
 //! The tables of a parallel join: its lock, its barriers and words, and its signals; and a worker's
 //! seats at them.
-ghost use Rattle.std.specs.Prelude.{◌≡◌, ◌+◌, ◌*◌, ◌<◌, ◌≤◌, Some, [], length, IfOk, IfErr};
+ghost use Rattle.std.specs.Prelude.{◌≡◌, ◌+◌, ◌*◌, ◌<◌, ◌≤◌, false, Some, [], length, IfOk, IfErr};
 ghost use Rattle.std.specs.Int.{IsPowerOfTwo};
 ghost use Rattle.lw_core.specs.Machine as lock;
 ghost use Rattle.wait_core.specs.Seating as wait;
@@ -50,6 +50,7 @@ pub struct JoinTables<'r> {
     ghost lock: { (locks.locks ≡ 1) × (locks.procs ≡ plan.workers + 1) },
     ghost barriers: { (waits.procs ≡ plan.workers + 1) × (waits.cvs ≡ plan.workers + 73) × (waits.bars ≡ 67) × (waits.phase ≡ 0) },
     ghost slots: { (signals.procs ≡ plan.workers + 1) × (signals.generation ≡ 0) },
+    ghost fixed: { waits.party.grows ≡ false },
 }
 
 /// A worker's seats, one at each table.

@@ -13,4 +13,4 @@ new-requires-3-clause-opening c = λ κs.
     let many = c.batches_for-batches in
     let range = many.ensures.range in
     opening_stands _ (rows_meet c.args.inner.now c.args.outer.now (n * many.result) n many.result c.next_power_of_two-first_batches.result false few.0 few.1)
-    (record { half = omega arith; buckets = omega arith; batches = range.0; most = range.1; room = omega arith; powers = (power, many.ensures.power) }) 0
+    (record { half = omega arith; buckets = omega arith; batches = range.0; most = range.1; room = omega arith; few = omega arith; powers = (power, many.ensures.power) }) 0
