@@ -17,6 +17,7 @@ use heads::{chain_head, source_of, store_head};
 use join_party::{JoinSeats, JoinTables};
 use lists::{push, take_first};
 use row_model::{Route, Side};
+pub use sizes::Sizes;
 use std::sync::Wait;
 
 /// The store of a side's rows of a batch.

@@ -12,10 +12,24 @@ use wait_core::{WaitSeat, WaitTable};
 
 /// The half of the heads that holds the rows, and how many buckets and batches there are.
 #[derive(Debug, Clone, Copy, PartialEq, Eq)]
-pub(crate) struct Sizes {
-    pub(crate) half: u32,
-    pub(crate) buckets: u32,
-    pub(crate) batches: u32,
+pub struct Sizes {
+    pub half: u32,
+    pub buckets: u32,
+    pub batches: u32,
+}
+
+impl Sizes {
+    /// The sizes that the word says, of at most 524,288 buckets.
+    pub fn of(word: u64) -> Sizes
+        requires few { (sizes_of word).buckets ≤ 524288 }
+        ensures { AreSizes result (sizes_of word) }
+    {
+        Sizes {
+            half: (word % 2) as u32,
+            buckets: (word / 256) as u32,
+            batches: (word / 2 % 128) as u32,
+        }
+    }
 }
 
 // Reads the sizes, which the seat knows.
@@ -33,9 +47,5 @@ pub(crate) fn read_sizes<'r>(
     let word = waits
         .client(seat, HashStep::Load(Look::Plain(Word::Sizes)))
         .old;
-    Sizes {
-        half: (word % 2) as u32,
-        buckets: (word / 256) as u32,
-        batches: (word / 2 % 128) as u32,
-    }
+    Sizes::of(word)
 }

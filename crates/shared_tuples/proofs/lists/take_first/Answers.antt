@@ -9,7 +9,7 @@ use Rattle.join_law.proofs.Learned.{taken_known}
 use Rattle.join_party.specs.Joins.{join}
 use Rattle.join_party.specs.declared.party.HashParty.{HashParty}
 use Rattle.shared_tuples.proofs.Tuples.{with_is}
-use Rattle.shared_tuples.proofs.Takes.{first_at, row_there, head_read, next_read, take_ready, missed_row, from_source}
+use Rattle.shared_tuples.proofs.Takes.{first_at, row_there, head_read, next_read, take_ready, took_row, missed_row, from_source}
 use Rattle.shared_tuples.proofs.lists.take_first.Goals as goal
 
 pub loop-init : goal.loop-init
@@ -29,6 +29,19 @@ client-next-requires-clause-may g c κs =
     let there = row_there j _ _ _ stood.rule.client _ (party_of c.loop.seat.view) stood.step c.args.source c.client-first.result.old c.requires.may.inside stood.read c.if-first-eq0.false in
     let at = head_read j v c.loop.seat.view c.client-first.new.seat.view c.args.source c.loop.invariant.2 c.client-first.result.old c.loop.invariant.3 c.client-first.ensures.view there.0 in
     (there.1, subst (λ (y : WaitView HashView). IsTaking y.client.taking (c.client-first.result.old - 1)) (sym at) refl)
+
+pub returns-then-seen-clause-taken : goal.returns-then-seen-clause-taken
+returns-then-seen-clause-taken g c =
+    let j = join c.args.waits.now.party in
+    let v = c.args.seat.now.view in
+    let source = c.args.source in
+    let n : ℕ = c.client-first.result.old in
+    let m : ℕ = c.client-next.result.old in
+    let stood = c.client-first.ensures.stood in
+    let there = row_there j _ _ _ stood.rule.client _ (party_of c.loop.seat.view) stood.step source n c.requires.may.inside stood.read c.if-first-eq0.false in
+    let one = head_read j v c.loop.seat.view c.client-first.new.seat.view source c.loop.invariant.2 n c.loop.invariant.3 c.client-first.ensures.view there.0 in
+    let two = next_read j v c.client-first.new.seat.view c.client-next.new.seat.view source (n - 1) m one c.client-next.ensures.view in
+    took_row j v c.client-next.new.seat.view c.client-seen.new.seat.view (Some (first_at j v source (n - 1) (Some m))) (n - 1) m c.source_head-head.result c.client-seen.result.old two c.client-seen.ensures.view (sym c.client-seen.ensures.changed ∙ c.if-seen.true)
 
 pub returns-then-seen-clause-row : goal.returns-then-seen-clause-row
 returns-then-seen-clause-row g c =

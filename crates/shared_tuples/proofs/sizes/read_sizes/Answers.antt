@@ -1,4 +1,4 @@
-use Rattle.std.proofs.Common.{◌≡◌, ℕ, ◌/◌, ◌%◌, refl, subst}
+use Rattle.std.proofs.Common.{◌≡◌, ◌≤◌, ℕ, subst, arith}
 use Rattle.wait_core.specs.Seating.{party_of}
 use Rattle.join_law.specs.Layout.{sizes_of}
 use Rattle.join_law.specs.Phases.{known_word}
@@ -19,5 +19,4 @@ returns-clause-sizes c =
     let known = with_is (known_word v) _ c.requires.known.0 in
     let same : n ≡ known.0 = known_found j _ _ _ stood.rule.client _ v stood.step known.0 n stood.read known.1 c.requires.known.1 in
     let fit = sizes_fit_found j _ _ _ stood.rule.client _ v stood.step n stood.read in
-    with_there (known_word v) _ known.0 known.1
-    (subst (λ (w : ℕ). AreSizes (record { half = n % 2; buckets = n / 256; batches = n / 2 % 128 }) (sizes_of w) × SizesFit j (sizes_of w)) same ((refl, refl, refl), fit))
+    with_there (known_word v) _ known.0 known.1 (subst (λ (w : ℕ). AreSizes c.of.result (sizes_of w) × SizesFit j (sizes_of w)) same (c.of.ensures, fit))
