@@ -1,18 +1,18 @@
 //! How a claimed row is hashed: it goes where the hash of its key leads, or is set aside.
-ghost use Rattle.std.specs.Prelude.{◌≡◌, ◌≤◌, ◌<◌, ◌+◌, [], MatchOption, ⊤};
+ghost use Rattle.std.specs.Prelude.{◌≡◌, ◌≤◌, ◌<◌, ◌+◌, false, [], MatchOption, ⊤};
 ghost use Rattle.wait_core.specs.Seating.{client_moved, party_of};
 ghost use Rattle.join_law.specs.Machine.{At, InHand, claim_phase};
 ghost use Rattle.join_law.specs.Phases.{build};
-ghost use Rattle.join_law.specs.Views.{without};
+ghost use Rattle.join_law.specs.Views.{dropped, without};
 ghost use Rattle.join_party.specs.Joins.{join};
-ghost use Rattle.hash_build.specs.Hashing.{HashesOnly, IsOfSide, KnowsForGood};
+ghost use Rattle.hash_build.specs.Hashing.{ClaimsNone, HashesOnly, IsRow, KnowsForGood, MayPlace};
 
-use crate::sizes::Sizes;
 use join_party::{HashStep, JoinSeats, JoinTables, Look};
-use proc_table::{Ledger, Steps};
+use proc_table::Steps;
 use row_model::{Route, Side};
-use shared_tuples::{StoreNo, insert, put};
+use shared_tuples::{Sizes, StoreNo, insert, put};
 use std::sync::Wait;
+use std::sync::ledger::Ledger;
 
 // The hash of a row's key, None where the key is empty. One look.
 fn hash_of<'r, L: Ledger>(
@@ -21,20 +21,21 @@ fn hash_of<'r, L: Ledger>(
     row: u32,
     steps: &mut Steps<L>,
 ) -> Option<u32>
-    requires row { IsOfSide (join tables.now.waits.party) side row }
+    requires row { IsRow (join tables.now.waits.party) side row }
     ensures hash { result ≡ (join tables.now.waits.party).hash row }
     ensures look { steps.new ≡ steps.old + 1 }
 {
     match side {
         Side::Inner => tables.inner().hash_of(row, steps),
-        Side::Outer => tables
-            .outer()
-            .hash_of(row - tables.inner().len(), steps),
+        Side::Outer => {
+            let inner = tables.inner().len();
+            tables.outer().hash_of(row - inner, steps)
+        }
     }
 }
 
-// Puts a row whose hash is stored where its route leads: an inner row of batch 0 into its chain, any
-// other into the store of its batch.
+// Puts a row, whose hash is stored, where its route leads: an inner row of batch 0 into its chain, any
+// other row into the store of its batch.
 fn place<'r, R: Wait>(
     rt: &R,
     tables: &JoinTables<'r>,
@@ -75,14 +76,13 @@ pub(crate) fn hash_row<'r, R: Wait, L: Ledger>(
     requires table { seats.old.wait.table_id ≡ tables.now.waits.table_id }
     requires idle { seats.old.wait.view.place ≡ [] }
     requires phase { At (party_of seats.old.wait.view) build (claim_phase side) }
-    requires known { KnowsForGood (join tables.now.waits.party) seats.old.wait.view.client sizes.buckets sizes.batches }
-    requires row { IsOfSide (join tables.now.waits.party) side row × InHand (party_of seats.old.wait.view) row }
+    requires known { KnowsForGood (join tables.now.waits.party) seats.old.wait.view.client.known sizes }
+    requires row { IsRow (join tables.now.waits.party) side row × InHand (party_of seats.old.wait.view) row }
     ensures table { (seats.new.wait.table_id ≡ seats.old.wait.table_id) × (seats.new.wait.id ≡ seats.old.wait.id) }
     ensures others { (seats.new.lock ≡ seats.old.lock) × (seats.new.signal ≡ seats.old.signal) }
     ensures view { seats.new.wait.view ≡ client_moved seats.old.wait.view seats.new.wait.view.client }
-    ensures only { HashesOnly seats.old.wait.view.client seats.new.wait.view.client }
+    ensures only { HashesOnly seats.old.wait.view.client seats.new.wait.view.client × ClaimsNone seats.old.wait.view.client seats.new.wait.view.client }
     ensures hand { seats.new.wait.view.client.hand ≡ without row seats.old.wait.view.client.hand }
-    ensures claims { IsSameClaim seats.old.wait.view.client seats.new.wait.view.client }
     ensures look { steps.new ≡ steps.old + 1 }
     ensures batch { MatchOption result ⊤ (λ b. b < 64) }
 {

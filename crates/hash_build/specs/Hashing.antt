@@ -1,0 +1,79 @@
+-- What a worker knows while it hashes rows, and what stays as it was.
+use Rattle.std.specs.Prelude.{◌≡◌, ℕ, ◌+◌, ◌<◌, ◌≤◌, true, false, [], Option, Some, None}
+use Rattle.row_model.specs.declared.Route.{Route}
+use Rattle.row_model.specs.declared.Side.{Side}
+use Rattle.row_model.specs.declared.Side.TheVariants.{Inner, Outer}
+use Rattle.lw_core.specs.declared.view.View as lock
+use Rattle.lw_core.specs.Machine.{mode_in}
+use Rattle.join_law.specs.declared.view.HashView.{HashView}
+use Rattle.join_law.specs.declared.view.Known.{Known}
+use Rattle.join_law.specs.Layout.{Join, sizes_of, rows}
+use Rattle.join_law.specs.Phases.{build}
+use Rattle.join_law.specs.Machine.{At, claim_phase}
+use Rattle.join_law.specs.Stands.{SizesFit}
+use Rattle.join_law.specs.Views.{View}
+use Rattle.join_party.specs.declared.tables.JoinSeats.{JoinSeats}
+use Rattle.shared_tuples.specs.declared.sizes.Sizes.{Sizes}
+use Rattle.shared_tuples.specs.Tuples.{AreSizes, IsReady, Leads, Routed}
+
+-- these sizes are known for good
+abbrev pub for_good : ℕ → Option Known
+for_good w = Some (record { word = w; settled = true; batch_growth = 0; bucket_growth = 0 })
+
+pub record KnowsForGood (j : Join) (known : Option Known) (sizes : Sizes) : Type 0 where
+  pub word : ℕ
+  pub is : known ≡ for_good word
+  pub are : AreSizes sizes (sizes_of word)
+  pub fit : SizesFit j (sizes_of word)
+
+-- a row of the side that is there
+abbrev pub IsRow : Join → Side → ℕ → Type 0
+IsRow j Inner row = row < j.inner
+IsRow j Outer row = (j.inner ≤ row) × (row < rows j)
+
+-- a row in hand, with its hash stored, by the route of its hash, in the phase that hashes its side
+pub record MayPlace (j : Join) (v : View) (side : Side) (route : Route) (row : ℕ) : Type 0 where
+  pub fixed : j.grows ≡ false
+  pub phase : At v build (claim_phase side)
+  pub ready : IsReady v row
+  pub of_side : IsRow j side row
+  pub few : route.batch < 64
+  pub leads : Routed j v row (λ z x. Leads z x route)
+
+-- all but the rows in hand and set aside, what was claimed and seen of the cursors, and the row that is hashed
+pub record HashesOnly (v w : HashView) : Type 0 where
+  pub given : w.given ≡ v.given
+  pub probed : w.probed ≡ v.probed
+  pub known : w.known ≡ v.known
+  pub emptied : w.emptied ≡ v.emptied
+  pub drained : w.drained ≡ v.drained
+  pub done : w.done ≡ v.done
+  pub swept : w.swept ≡ v.swept
+  pub stored : w.stored ≡ v.stored
+  pub late : w.late ≡ v.late
+
+-- nothing was claimed
+pub record ClaimsNone (v w : HashView) : Type 0 where
+  pub chunks : w.chunks ≡ v.chunks
+  pub claimed : w.claimed ≡ v.claimed
+
+-- the seat at the lock is in no call, and doesn't hold the lock
+abbrev pub IsFree : lock.View → Type 0
+IsFree v = (v.place ≡ []) × (mode_in 0 v ≡ None)
+
+-- its numbers are the same
+pub record SameNumbers (v w : lock.View) : Type 0 where
+  pub own : w.own ≡ v.own
+  pub pending : w.pending ≡ v.pending
+  pub taken : w.taken ≡ v.taken
+  pub drawn : w.drawn ≡ v.drawn
+
+-- how far a worker came: nothing is in hand, each chunk of inner rows is reported, and each row that was claimed was looked at once
+pub record Progress (v w : JoinSeats) (looks_before looks_after : ℕ) : Type 0 where
+  pub only : HashesOnly v.wait.view.client w.wait.view.client
+  pub hand : w.wait.view.client.hand ≡ []
+  pub free : IsFree w.lock.view
+  pub numbers : SameNumbers v.lock.view w.lock.view
+  pub signal : w.signal ≡ v.signal
+  pub reports : w.lock.view.grants + v.wait.view.client.chunks ≡ v.lock.view.grants + w.wait.view.client.chunks
+  pub looks : looks_after + v.wait.view.client.claimed ≡ looks_before + w.wait.view.client.claimed
