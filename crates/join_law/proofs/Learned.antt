@@ -1,14 +1,17 @@
 -- What a seat learns from a word that it found.
-use Rattle.std.proofs.Common.{◌≡◌, ◌⊎◌, ℕ, suc, ◌+◌, ◌<◌, ◌≤◌, List, [], ◌∷◌, true, get_or, refl, sym, ap, ◌∙◌, subst, arith, inl, inr, ⊎_elim, Some, Option}
+use Rattle.std.proofs.Common.{◌≡◌, ◌⊎◌, ℕ, suc, ◌+◌, ◌<◌, ◌≤◌, List, [], ◌∷◌, ◌++◌, true, get_or, refl, sym, ap, ◌∙◌, subst, arith, inl, inr, ⊎_elim, Some, Option}
+use mathlib.Core.Logic.{dite}
+use native.Mathlib.Decide.{dec_le}
 use Rattle.seat_roster.specs.Roster.{times}
 use Rattle.seat_roster.specs.Totals.{total}
 use Rattle.seat_roster.proofs.Totals.{total_at}
+use Rattle.seat_roster.proofs.Numbers.{times_append}
 use Rattle.wait_core.specs.Ops.{op_at}
 use Rattle.wait_core.specs.Parties.{IsStep}
 use Rattle.row_model.specs.declared.Side.TheVariants as side
 use Rattle.join_law.specs.declared.step.HashStep.{HashStep}
 use Rattle.join_law.specs.declared.step.HashStep.TheVariants.{Load, Take}
-use Rattle.join_law.specs.declared.step.Look.TheVariants.{Plain, Cursor}
+use Rattle.join_law.specs.declared.step.Look.TheVariants.{Plain, Cursor, WalkHead, WalkNext}
 use Rattle.join_law.specs.declared.step.Look.TheVariants as look
 use Rattle.join_law.specs.declared.step.Word.TheVariants as word
 use Rattle.join_law.specs.Layout.{Join, Inside, sizes_of, place, read, rows, heads}
@@ -17,11 +20,13 @@ use Rattle.join_law.specs.Phases.{build, batch_bar, HASH_OUTER, RUN, FREE, LOAD,
 use Rattle.join_law.specs.Views.{View, below, held}
 use Rattle.join_law.specs.declared.view.Known.{Known}
 use Rattle.join_law.specs.declared.view.Taking.{Taking}
+use Rattle.join_law.specs.declared.view.Walk.{Walk}
 use Rattle.join_law.specs.declared.step.Source.{Source}
 use Rattle.join_law.specs.declared.step.Source.TheVariants as from
 use Rattle.join_law.specs.Machine.{InHand, At, MayTake, TakeIsReady, May, step_op, word_of}
 use Rattle.join_law.specs.Stands.{Stands, SizesFit, Links, Listed, Frozen, at_head}
-use Rattle.join_law.proofs.Rows.{one, one_same, listed_total, listed_inside}
+use Rattle.join_law.proofs.Rows.{one, one_same, listed_total, listed_inside, links_row}
+use Rattle.join_law.proofs.Heads.{chain_inside, chain_no_outer}
 use Rattle.join_law.proofs.SizesInForce.{in_force_later}
 use Rattle.join_law.proofs.TakeKeeps.{OfSource, of_source}
 use Rattle.join_law.proofs.TakeHeads.{sizes_at_batch, sizes_while_hashed}
@@ -76,6 +81,9 @@ module _ (j : Join) (words : List ℕ) (views : List View) (phases : List ℕ) (
   pub known_found : (w n : ℕ) → get_or words (op_at (step_op j (Load (Plain word.Sizes)))) 0 ≡ n → known_word v ≡ Some w → WorksBySizes j v → n ≡ w
   known_found w n found known works = word_found (Load (Plain word.Sizes)) n found (omega arith) ∙ known_in_force w known works
 
+  pub known_fit : (w : ℕ) → known_word v ≡ Some w → WorksBySizes j v → SizesFit j (sizes_of w)
+  known_fit w known works = subst (λ (n : ℕ). SizesFit j (sizes_of n)) (known_in_force w known works) h.parts.fit
+
   -- sizes that are found have room
   pub sizes_fit_found : (n : ℕ) → get_or words (op_at (step_op j (Load (Plain word.Sizes)))) 0 ≡ n → SizesFit j (sizes_of n)
   sizes_fit_found n found = subst (λ (w : ℕ). SizesFit j (sizes_of w)) (sym (word_found (Load (Plain word.Sizes)) n found (omega arith))) h.parts.fit
@@ -115,6 +123,36 @@ module _ (j : Join) (words : List ℕ) (views : List View) (phases : List ℕ) (
   taken_known t r head next w taking may found known =
       let ready = subst (λ (o : Option Taking). TakeIsReady j v o r head next) taking may.1 in
       subst (λ (w : ℕ). OfSource j (sizes_of w) t.source r) (taking_in_force t.source t.phase w ready.3 known) (taken_found t r head next taking may found).1
+
+  -- only inner rows stand in chains
+  chain_row : (x r : ℕ) → Listed h.lists (chain_at j (sizes_of h.memory.sizes) x) r → r < j.inner
+  chain_row x r l = dite (dec_le j.inner r)
+      (λ outer. let t = h.parts.routes.stands (chain_at j (sizes_of h.memory.sizes) x) r l in absurd (chain_no_outer j (sizes_of h.memory.sizes) h.parts.fit x (batch_of (sizes_of h.memory.sizes) t.0) (t.3 outer).0))
+      (λ less. omega arith)
+
+  -- a chain that is walked is at its end, or goes on with an inner row
+  pub walk_head_found : (row head x n : ℕ) → head ≡ chain_at j (sizes_of h.memory.sizes) x → get_or words (op_at (step_op j (Load (WalkHead row head)))) 0 ≡ n → (n ≡ 0) ⊎ ((r : ℕ) × (n ≡ suc r) × (r < j.inner))
+  walk_head_found row head x n is found =
+      let inside : head < heads j = subst (λ (k : ℕ). k < heads j) (sym is) (chain_inside j (sizes_of h.memory.sizes) h.parts.fit x) in
+      let e = word_found (Load (WalkHead row head)) n found inside in
+      ⊎_elim (λ none. inl (e ∙ none)) (λ some. inr (some.0, e ∙ some.1, chain_row x some.0 (subst (λ (k : ℕ). Listed h.lists k some.0) is some.2)))
+      (row_or_end h.memory.nexts (get_or h.memory.heads head 0) (at_head h.lists head) (h.parts.links.links head inside))
+
+  pub walk_next_found : (q : Walk) (inner n : ℕ) → v.client.walk ≡ Some q → q.stood ≡ suc inner → get_or words (op_at (step_op j (Load (WalkNext inner)))) 0 ≡ n → (n ≡ 0) ⊎ ((r : ℕ) × (n ≡ suc r) × (r < j.inner))
+  walk_next_found q inner n walks stood found =
+      let f = h.parts.walks.fits id v s.at q walks in
+      let row = links_row h.memory.nexts q.stood inner f.rest stood f.stands in
+      let chain : at_head h.lists (chain_at j (sizes_of h.memory.sizes) f.hash) ≡ q.passed ++ (inner ∷ row.0) = f.chain ∙ ap (λ l. q.passed ++ l) row.1 in
+      let here : Listed h.lists (chain_at j (sizes_of h.memory.sizes) f.hash) inner =
+      subst (λ l. 1 ≤ times inner l) (sym chain) (let t = times_append inner q.passed (inner ∷ row.0) in let o = one_same inner inner refl in let b : times inner (inner ∷ row.0) ≡ one inner inner + times inner row.0 = refl in omega arith) in
+      let e = word_found (Load (WalkNext inner)) n found (listed_row (chain_at j (sizes_of h.memory.sizes) f.hash) inner here) in
+      ⊎_elim (λ none. inl (e ∙ none))
+      (λ some. inr (
+        some.0,
+        e ∙ some.1,
+        chain_row f.hash some.0 (subst (λ l. 1 ≤ times some.0 l) (sym chain) (let t = times_append some.0 q.passed (inner ∷ row.0) in let b : times some.0 (inner ∷ row.0) ≡ one some.0 inner + times some.0 row.0 = refl in let m = some.2 in omega arith)),
+      ))
+      (row_or_end h.memory.nexts (get_or h.memory.nexts inner 0) row.0 row.2)
 
   -- an inner row of a batch that the seat probes stands in its chain, once
   pub chain_found : (row x : ℕ) → row < j.inner → j.hash row ≡ Some x → At v build RUN → At v (batch_bar (batch_of (sizes_of h.memory.sizes) x)) PROBE → times row (at_head h.lists (chain_at j (sizes_of h.memory.sizes) x)) ≡ 1
