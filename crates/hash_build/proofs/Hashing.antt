@@ -8,6 +8,7 @@ use Rattle.wait_core.specs.declared.view.WaitView.{WaitView}
 use Rattle.wait_core.specs.Parties.{phase_of}
 use Rattle.wait_core.specs.Seating.{client_moved, party_of}
 use Rattle.join_law.specs.declared.view.HashView.{HashView}
+use Rattle.join_law.specs.declared.view.Known.{Known}
 use Rattle.join_law.specs.Layout.{Join, SizesOf, sizes_of}
 use Rattle.join_law.specs.Phases.{known_at, known_word}
 use Rattle.join_law.specs.Views.{View, stretch, without}
@@ -18,7 +19,7 @@ use Rattle.shared_tuples.specs.declared.sizes.Sizes.{Sizes}
 use Rattle.shared_tuples.specs.Tuples.{Leads, Routed}
 use Rattle.join_law.proofs.Rows.{times_stretch}
 use Rattle.seat_roster.specs.Roster.{times}
-use Rattle.hash_build.specs.Hashing.{ClaimsNone, HashesOnly, KnowsForGood}
+use Rattle.hash_build.specs.Hashing.{ClaimsNone, HashesOnly, KnowsForGood, with_known, with_late}
 
 -- a seat that saw and claimed nothing of the cursors may still find an end by an add
 pub still_ends : (v w : WaitView HashView) (c : HashView) → w ≡ client_moved v c → c.inner_ended ≡ v.client.inner_ended → c.outer_ended ≡ v.client.outer_ended → c.inner_claims ≡ v.client.inner_claims → c.outer_claims ≡ v.client.outer_claims
@@ -36,16 +37,16 @@ pub leads_by : (j : Join) (v : View) (sizes : Sizes) (route : Route) (row x : �
 leads_by j v sizes route row x k key bucket batch =
     let z : SizesOf = sizes_of k.word in
     let b : routes.bucket_of z.buckets x ≡ route.bucket = ap (λ (n : ℕ). routes.bucket_of n x) (sym k.are.1) ∙ sym bucket in
-    let c : routes.batch_of z.buckets z.batches x ≡ route.batch = ap {A = ℕ × ℕ} (λ n. routes.batch_of n.0 n.1 x) (λ i. (sym k.are.1 i, sym k.are.2 i)) ∙ sym batch in
-    (with_there (j.hash row) _ x key (with_there (known_word v) _ k.word (known_good j v sizes k) (b, c)),
-    subst (λ (n : ℕ). n < 64) c (batch_few j z k.fit x))
+    let c : routes.batch_of z.buckets z.batches x ≡ route.batch = ap {A = ℕ × ℕ} (λ n. routes.batch_of n.0 n.1 x) (λ i. (sym k.are.1 i, sym k.are.2 i)) ∙ sym batch in (
+      with_there (j.hash row) _ x key (with_there (known_word v) _ k.word (known_good j v sizes k) (b, c)),
+      subst (λ (n : ℕ). n < 64) c (batch_few j z k.fit x),
+    )
 
 -- steps of which each changes no more than hashing does
 pub hashes_on : (u v w : HashView) → HashesOnly u v → HashesOnly v w → HashesOnly u w
 hashes_on u v w a b = record {
   given = b.given ∙ a.given;
   probed = b.probed ∙ a.probed;
-  known = b.known ∙ a.known;
   emptied = b.emptied ∙ a.emptied;
   drained = b.drained ∙ a.drained;
   done = b.done ∙ a.done;
@@ -55,7 +56,7 @@ hashes_on u v w a b = record {
 }
 
 pub claims_none : (u v w : HashView) → ClaimsNone u v → ClaimsNone v w → ClaimsNone u w
-claims_none u v w a b = record { chunks = b.chunks ∙ a.chunks; claimed = b.claimed ∙ a.claimed }
+claims_none u v w a b = record { known = b.known ∙ a.known; chunks = b.chunks ∙ a.chunks; claimed = b.claimed ∙ a.claimed }
 
 pub view_on : (u v w : WaitView HashView) → v ≡ client_moved u v.client → w ≡ client_moved v w.client → w ≡ client_moved u w.client
 view_on u v w a b = b ∙ ap (λ (y : WaitView HashView). client_moved y w.client) a
@@ -70,3 +71,12 @@ first_gone row n hand left less is then =
 -- and in hand it is
 pub first_there : (row n : ℕ) (hand : List ℕ) → row < n → hand ≡ stretch row (n - row) → 1 ≤ times row hand
 first_there row n hand less is = let t = times_stretch row row (n - row) in let e : times row hand ≡ times row (stretch row (n - row)) = ap (times row) is in omega arith
+
+-- what was read and seen leaves ends and claims as they are
+pub known_ends : (c : HashView) (k : Option Known) → ((side : Side) → MayStillEnd c side) → (side : Side) → MayStillEnd (with_known c k) side
+known_ends c k may Inner = may Inner
+known_ends c k may Outer = may Outer
+
+pub late_ends : (c : HashView) → ((side : Side) → MayStillEnd c side) → (side : Side) → MayStillEnd (with_late c) side
+late_ends c may Inner = may Inner
+late_ends c may Outer = may Outer

@@ -5,6 +5,7 @@ use Rattle.row_model.specs.declared.Side.{Side}
 use Rattle.row_model.specs.declared.Side.TheVariants.{Inner, Outer}
 use Rattle.lw_core.specs.declared.view.View as lock
 use Rattle.lw_core.specs.Machine.{mode_in}
+use Rattle.wait_core.specs.declared.view.WaitView.{WaitView}
 use Rattle.join_law.specs.declared.view.HashView.{HashView}
 use Rattle.join_law.specs.declared.view.Known.{Known}
 use Rattle.join_law.specs.Layout.{Join, sizes_of, rows}
@@ -40,11 +41,10 @@ pub record MayPlace (j : Join) (v : View) (side : Side) (route : Route) (row : �
   pub few : route.batch < 64
   pub leads : Routed j v row (λ z x. Leads z x route)
 
--- all but the rows in hand and set aside, what was claimed and seen of the cursors, and the row that is hashed
+-- hashing changes the rows in hand and set aside, what was seen of the cursors and claimed, and the sizes that are known
 pub record HashesOnly (v w : HashView) : Type 0 where
   pub given : w.given ≡ v.given
   pub probed : w.probed ≡ v.probed
-  pub known : w.known ≡ v.known
   pub emptied : w.emptied ≡ v.emptied
   pub drained : w.drained ≡ v.drained
   pub done : w.done ≡ v.done
@@ -52,8 +52,9 @@ pub record HashesOnly (v w : HashView) : Type 0 where
   pub stored : w.stored ≡ v.stored
   pub late : w.late ≡ v.late
 
--- nothing was claimed
+-- nothing was claimed, and no sizes were read
 pub record ClaimsNone (v w : HashView) : Type 0 where
+  pub known : w.known ≡ v.known
   pub chunks : w.chunks ≡ v.chunks
   pub claimed : w.claimed ≡ v.claimed
 
@@ -61,8 +62,14 @@ pub record ClaimsNone (v w : HashView) : Type 0 where
 abbrev pub IsFree : lock.View → Type 0
 IsFree v = (v.place ≡ []) × (mode_in 0 v ≡ None)
 
--- its numbers are the same
+-- the numbers of a seat, and the numbers drawn and taken over for others, are the same
 pub record SameNumbers (v w : lock.View) : Type 0 where
+  pub own : w.own ≡ v.own
+  pub pending : w.pending ≡ v.pending
+  pub taken : w.taken ≡ v.taken
+  pub drawn : w.drawn ≡ v.drawn
+
+pub record SameWaitNumbers (v w : WaitView HashView) : Type 0 where
   pub own : w.own ≡ v.own
   pub pending : w.pending ≡ v.pending
   pub taken : w.taken ≡ v.taken
@@ -71,9 +78,18 @@ pub record SameNumbers (v w : lock.View) : Type 0 where
 -- how far a worker came: nothing is in hand, each chunk of inner rows is reported, and each row that was claimed was looked at once
 pub record Progress (v w : JoinSeats) (looks_before looks_after : ℕ) : Type 0 where
   pub only : HashesOnly v.wait.view.client w.wait.view.client
+  pub known : w.wait.view.client.known ≡ v.wait.view.client.known
   pub hand : w.wait.view.client.hand ≡ []
   pub free : IsFree w.lock.view
   pub numbers : SameNumbers v.lock.view w.lock.view
   pub signal : w.signal ≡ v.signal
   pub reports : w.lock.view.grants + v.wait.view.client.chunks ≡ v.lock.view.grants + w.wait.view.client.chunks
   pub looks : looks_after + v.wait.view.client.claimed ≡ looks_before + w.wait.view.client.claimed
+
+-- sizes were read
+abbrev pub with_known : HashView → Option Known → HashView
+with_known v k = record v { known = k }
+
+-- the join was found at its end
+abbrev pub with_late : HashView → HashView
+with_late v = record v { late = true }

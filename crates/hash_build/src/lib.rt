@@ -1,6 +1,62 @@
-//! Building the hash table of a parallel hash join.
+//! The build of a parallel hash join's table (PostgreSQL's `MultiExecParallelHash` in nodeHash.c, and of
+//! the outer rows `ExecParallelHashJoinPartitionOuter` in nodeHashjoin.c): workers, who may start at
+//! any phase, hash the inner rows and then the outer rows, chunk by chunk.
 #![tactic(auto)]
 
+ghost use Rattle.std.specs.Prelude.{◌≡◌};
+ghost use Rattle.join_party.specs.Workers.{IsAt};
+ghost use Rattle.hash_build.specs.Builds.{Begins, Builds};
+
 mod chunks;
+mod phases;
 mod report;
 mod rows;
+
+use join_party::{JoinSeats, JoinTables};
+use phase_barrier::attach;
+use phases::{FREE, RUN, go_on, leave_late, read_sizes, the_build, work};
+use proc_table::{Gate, Point, Steps};
+use std::sync::Wait;
+use std::sync::ledger::Ledger;
+
+/// How a build ended: the join was found at its end, or the table is built and has so many buckets
+/// and batches.
+#[derive(Debug, Clone, Copy, PartialEq, Eq)]
+pub enum Built {
+    Late,
+    Ready { buckets: u32, batches: u32 },
+}
+
+/// Takes part in the build from the phase on in which it finds it, until the table is built: then the
+/// seat is attached to the build in RUN. Late exactly where it finds the build at FREE: then it is
+/// attached to nothing. It looks at the key of each row that it claims, once, and counts that in `steps`.
+pub fn build<'r, G: Gate, R: Wait, L: Ledger>(
+    rt: &R,
+    tables: &JoinTables<'r>,
+    seats: &mut JoinSeats<'r>,
+    worker: u32,
+    gate: &G,
+    steps: &mut Steps<L>,
+) -> Built
+    requires table { IsAt tables.now seats.old }
+    requires begins { Begins seats.old }
+    ensures table { IsAt tables.now seats.new × (seats.new.wait.id ≡ seats.old.wait.id) }
+    ensures built { Builds result seats.old seats.new steps.old steps.new }
+{
+    gate.at(worker, Point::Started);
+    let found = attach(rt, &tables.waits, &mut seats.wait, the_build());
+    gate.at(worker, Point::Attached { phase: found });
+    let sizes = read_sizes(tables, seats);
+    if found >= FREE {
+        leave_late(rt, tables, seats);
+        return Built::Late;
+    }
+    for phase in found..RUN {
+        work(rt, tables, seats, sizes, phase, worker, gate, steps);
+        go_on(rt, tables, seats, phase);
+    }
+    Built::Ready {
+        buckets: sizes.buckets,
+        batches: sizes.batches,
+    }
+}
