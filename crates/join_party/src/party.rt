@@ -27,6 +27,7 @@ pub struct HashParty<'r> {
 const HEADS: u64 = 176;
 
 // A place, as far as 32 bits go.
+#[inline(always)]
 fn clamp(place: u64) -> u32
     ensures { result ≡ min place 4294967295 }
 {
@@ -70,6 +71,7 @@ impl<'r> HashParty<'r> {
     }
 
     // Where a word stands. Each of the first five has a line of a cache to itself.
+    #[inline(always)]
     fn place(&self, word: Word) -> u64
         ensures { result ≡ place (join self.now) word }
     {
@@ -86,6 +88,7 @@ impl<'r> HashParty<'r> {
         }
     }
 
+    #[inline(always)]
     fn spot(&self, word: Word) -> u32
         ensures { result ≡ spot (join self.now) word }
     {
@@ -93,6 +96,7 @@ impl<'r> HashParty<'r> {
     }
 
     /// The head that a source names.
+    #[inline(always)]
     pub fn source_head(&self, source: Source) -> u64
         ensures { result ≡ source_head (join self.now) source }
     {
@@ -109,6 +113,7 @@ impl<'r> HashParty<'r> {
     }
 
     // Where the word of a load stands.
+    #[inline(always)]
     fn look_place(&self, look: Look) -> u64
         ensures { result ≡ place (join self.now) (looked_at (join self.now) look) }
     {
@@ -127,6 +132,7 @@ impl<'r> HashParty<'r> {
         }
     }
 
+    #[inline(always)]
     fn look_spot(&self, look: Look) -> u32
         ensures { result ≡ spot (join self.now) (looked_at (join self.now) look) }
     {
@@ -192,6 +198,7 @@ impl<'r> Party for HashParty<'r> {
         if at == 7 { self.first_word() } else { 0 }
     }
 
+    #[inline(always)]
     fn op(&self, step: HashStep) -> ClientOp {
         match step {
             HashStep::Load(look) => ClientOp::Load {

@@ -229,6 +229,7 @@ impl<P: Party> WaitTable<P> {
     }
 
     /// Makes one step on one word of the client's.
+    #[inline(always)]
     pub fn client(&self, seat: &mut WaitSeat<P>, step: P::Step) -> WaitSeen
         requires table { seat.old.table_id ≡ self.now.table_id }
         requires place { seat.old.view.place ≡ [] }
