@@ -5,7 +5,8 @@ use Rattle.row_model.specs.declared.Side.TheVariants as side
 use Rattle.csv_tables.specs.Faults.{Rose}
 use Rattle.csv_tables.specs.Loading.{input_limit}
 use Rattle.csv_tables.specs.Appending.{AppendsPart}
-use Rattle.schedule_script.specs.ScriptText.{Answer, Text, BadLine, script_answer}
+use Rattle.script_play.specs.Answers.{Answer, Text, BadLine}
+use Rattle.schedule_script.specs.ScriptText.{script_answer}
 use Rattle.pg_sync.specs.declared.status.Status.{Status}
 use Rattle.pg_sync.specs.declared.status.Status.TheVariants as status
 

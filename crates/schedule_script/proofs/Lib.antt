@@ -1,11 +1,1 @@
-pub mod LineFacts
-pub mod PlayFacts
-pub mod KindFacts
-pub mod SignalFacts
-pub mod TextFacts
-pub mod LockLists
-pub mod LockFacts
-pub mod Likeness
-pub mod SketchFacts
-pub mod LockSketchFacts
 pub mod ScriptFacts

@@ -1,13 +1,1 @@
-pub mod Lines
-pub mod LineViews
-pub mod Play
-pub mod Moments
-pub mod Signals
-pub mod SignalScripts
-pub mod SignalSketch
-pub mod Texts
-pub mod Locks
-pub mod LockScripts
-pub mod LockSketch
 pub mod ScriptText
-pub mod Replays

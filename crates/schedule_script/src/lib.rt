@@ -2,16 +2,10 @@
 //! signals.
 #![tactic(auto)]
 
-mod lines;
-mod locks;
-mod machine;
-mod play;
 mod script;
-mod signals;
-mod texts;
 
-pub use play::ScriptFault;
 pub use script::replay;
+pub use script_play::ScriptFault;
 
 #[cfg(test)]
 mod tests;

@@ -69,6 +69,59 @@ const CALLS: &[u8] =
 const CALLS_SHOWN: &[u8] =
     b"0 = got\n1 = held 21000000\n0 = done\n0 = value 7\n2 = done\n0 = done\n1 = freed 61000000\n1 = done\nfinal\nL0.var 5\nL0.g2 7\n";
 
+// A latch that is set before the second look ends the wait there.
+const SET_BEFORE_THE_SECOND_LOOK: &[u8] =
+    b"wait 2 1 1\n0 waitlatch\n0 x2\n1 set 0\n1 x2\n0 x2\n1\n";
+
+const SET_BEFORE_THE_SECOND_LOOK_TEXT: &[u8] =
+    b"0 sload P0.set 0\n0 mstore P0.may 1\n1 sload P0.set 0\n1 sset P0.set 1\n0 sload P0.set 1\n0 mstore P0.may 0\n0 = latch\n1 mload P0.may 0\n1 = done\nfinal\nP0.set 1\n";
+
+// One that is set after it wakes the sleeper, which clears its wake byte.
+const SET_AFTER_THE_LOOK: &[u8] = b"wait 2 1 1\n0 waitlatch\n0 x5\n1 set 0\n1 x4\n0 x4\n";
+
+const SET_AFTER_THE_LOOK_TEXT: &[u8] =
+    b"0 sload P0.set 0\n0 mstore P0.may 1\n0 sload P0.set 0\n0 shload shut 0\n0 look P0.byte 0\n1 sload P0.set 0\n1 sset P0.set 1\n1 mload P0.may 1\n1 byte P0.byte 1\n1 = done\n0 look P0.byte 1\n0 mstore P0.may 0\n0 drain P0.byte 0\n0 sload P0.set 1\n0 = latch\nfinal\nP0.set 1\n";
+
+// A phase passes as the last leaves, and one of those who waited is elected.
+const ONE_IS_ELECTED: &[u8] =
+    b"wait 3 1 1\n0 attach 0\n0 x2\n1 attach 0\n1 x2\n2 attach 0\n2 x2\n0 arrive 0\n0 x10\n1 arrive 0\n1 x10\n2 detach 0\n2 x16\n1 x11\n0 x11\n";
+
+const ONE_IS_ELECTED_SHOWN: &[u8] =
+    b"0 = phase 0\n1 = phase 0\n2 = phase 0\n2 = more\n1 = elected\n0 = released\nfinal\nB0 phase 1 participants 2 arrived 0 elected 1\n";
+
+// A signal pops the sentinel of a broadcast, which then pops one who came late, and ends.
+const SIGNAL_POPS_THE_SENTINEL: &[u8] =
+    b"wait 6 1 1\n0 prepare 0\n0 x2\n1 prepare 0\n1 x2\n2 prepare 0\n2 x2\n3 broadcast 0\n3 x5\n5 prepare 0\n5 x2\n4 signal 0\n4 x5\n4 signal 0\n4 x5\n4 signal 0\n4 x5\n3 x5\n";
+
+const SIGNAL_POPS_THE_SENTINEL_SHOWN: &[u8] =
+    b"0 = done\n1 = done\n2 = done\n5 = done\n4 = sent 1\n4 = sent 2\n4 = sent 3\n3 = done\nfinal\nP0.set 1\nP1.set 1\nP2.set 1\nP3.set 1\nP5.set 1\n";
+
+// The sole participant passes the phase.
+const SOLE_PARTICIPANT: &[u8] = b"wait 1 1 1\n0 attach 0\n0 x2\n0 arrdetach 0\n0 x4\n";
+
+const SOLE_PARTICIPANT_SHOWN: &[u8] =
+    b"0 = phase 0\n0 = last\nfinal\nB0 phase 1 participants 0 arrived 0 elected 0\n";
+
+// The last phase is never passed.
+const WORN_PHASE: &[u8] = b"wait 1 1 1 4611686018427387904\n0 attach 0\n0 x2\n0 arrive 0\n0 x2\n";
+
+const WORN_PHASE_SHOWN: &[u8] =
+    b"0 = phase 4611686018427387904\n0 = worn 4611686018427387904\nfinal\nB0 phase 4611686018427387904 participants 1 arrived 0 elected 4611686018427387904\n";
+
+// A list in hand isn't at home; a record in hand is printed as it was found.
+const WAIT_IN_HAND: &[u8] =
+    b"wait 2 1 1\n0 prepare 0\n0 x2\n0 attach 0\n0 x2\n1 signal 0\n1\n0 detach 0\n0\n";
+
+const WAIT_IN_HAND_SHOWN: &[u8] =
+    b"0 = done\n0 = phase 0\nfinal\nC0 1\nB0 1\nB0 phase 0 participants 1 arrived 0 elected 0\n";
+
+// Every other call, with its answers.
+const WAIT_CALLS: &[u8] =
+    b"wait 3 2 1\n0 cancel\n0 sleep 1\n0 x2\n1 signal 1\n1 x5\n0 sleep 1\n0 x4\n0 cancel\n0 x2\n0 isset\n0\n0 set 0\n0 x3\n0 isset\n0\n0 reset\n0\n1 signal 0\n1 x2\n1 attach 0\n1 x2\n2 attach 0\n2 x2\n2 exceptlast 0\n2 x2\n1 exceptlast 0\n1 x2\n1 prepare 0\n1 x2\n1 cancel\n1 x2\n1 detach 0\n1 x2\n2 waitlatch\n2 x5\n1 shut\n1 x4\n2 x4\n2 x4\n";
+
+const WAIT_CALLS_SHOWN: &[u8] =
+    b"0 = false\n0 = prepared\n1 = sent 0\n0 = signalled\n0 = false\n0 = value 0\n0 = done\n0 = value 1\n0 = done\n1 = none\n1 = phase 0\n2 = phase 0\n2 = more\n1 = last\n1 = done\n1 = false\n1 = last\n1 = done\n2 = shutdown\nfinal\nP0.byte 1\nP1.byte 1\nshut 1\nB0 phase 1 participants 0 arrived 0 elected 0\n";
+
 // Whether a line stands for an answer.
 fn is_answer(line: &[u8]) -> bool {
     line.len() > 4 && (line[2] == b'=' || line[3] == b'=')
@@ -150,6 +203,41 @@ fn lock_scripts_answer_and_end(rt: HostRuntime) -> Result<(), Fail> {
 }
 
 #[test]
+fn wait_scripts_have_their_texts(rt: HostRuntime) -> Result<(), Fail> {
+    let cases = [
+        (SET_BEFORE_THE_SECOND_LOOK, SET_BEFORE_THE_SECOND_LOOK_TEXT),
+        (SET_AFTER_THE_LOOK, SET_AFTER_THE_LOOK_TEXT),
+    ];
+    for (script, text) in cases {
+        assert_eq!(rt; text_of(&rt, rt.alloc(), script).as_slice(), text);
+    }
+    Ok(())
+}
+
+#[test]
+fn wait_scripts_answer_and_end(rt: HostRuntime) -> Result<(), Fail> {
+    let cases = [
+        (ONE_IS_ELECTED, ONE_IS_ELECTED_SHOWN, 1024),
+        (
+            SIGNAL_POPS_THE_SENTINEL,
+            SIGNAL_POPS_THE_SENTINEL_SHOWN,
+            595,
+        ),
+        (SOLE_PARTICIPANT, SOLE_PARTICIPANT_SHOWN, 145),
+        (WORN_PHASE, WORN_PHASE_SHOWN, 195),
+        (WAIT_IN_HAND, WAIT_IN_HAND_SHOWN, 155),
+        (WAIT_CALLS, WAIT_CALLS_SHOWN, 1045),
+    ];
+    for (script, end, length) in cases {
+        let text = text_of(&rt, rt.alloc(), script);
+        assert_eq!(rt; text.len(), length);
+        let lines = shown(rt.alloc(), text.as_slice())?;
+        assert_eq!(rt; lines.as_slice(), end);
+    }
+    Ok(())
+}
+
+#[test]
 fn older_then_newer_then_kept(rt: HostRuntime) -> Result<(), Fail> {
     let text = text_of(&rt, rt.alloc(), OLDER_THEN_NEWER_THEN_KEPT);
     let lines = shown(rt.alloc(), text.as_slice())?;
@@ -171,7 +259,6 @@ fn bad_lines_are_named(rt: HostRuntime) -> Result<(), Fail> {
         (b"signal 1 4611686018427387905\n".as_slice(), 1),
         (b"signal 1 0 0\n".as_slice(), 1),
         (b"signal 1 \n".as_slice(), 1),
-        (b"wait 1\n".as_slice(), 1),
         (b"signal 1\n# skipped\n0\n".as_slice(), 3),
         (b"signal 1\n1 join\n".as_slice(), 2),
         (b"signal 1\n0 leave\n".as_slice(), 2),
@@ -224,6 +311,37 @@ fn bad_lines_on_locks_are_named(rt: HostRuntime) -> Result<(), Fail> {
             b"lock 1 1\n0 acquire 0 X\n0 x2\n0 write 0 4 1\n".as_slice(),
             4,
         ),
+    ];
+    for (script, line) in cases {
+        assert_eq!(rt; bad_line(&rt, rt.alloc(), script), line);
+    }
+    Ok(())
+}
+
+#[test]
+fn bad_lines_on_waits_are_named(rt: HostRuntime) -> Result<(), Fail> {
+    let cases = [
+        (b"wait 1\n".as_slice(), 1),
+        (b"wait 1 1\n".as_slice(), 1),
+        (b"wait 0 1 1\n".as_slice(), 1),
+        (b"wait 65 1 1\n".as_slice(), 1),
+        (b"wait 1 161 1\n".as_slice(), 1),
+        (b"wait 1 1 0\n".as_slice(), 1),
+        (b"wait 1 1 2\n".as_slice(), 1),
+        (b"wait 1 160 73\n".as_slice(), 1),
+        (b"wait 1 1 1 4611686018427387905\n".as_slice(), 1),
+        (b"wait 1 1 1 0 0\n".as_slice(), 1),
+        (b"wait 1 1 1\n0\n".as_slice(), 2),
+        (b"wait 1 1 1\n1 cancel\n".as_slice(), 2),
+        (b"wait 1 1 1\n0 set 1\n".as_slice(), 2),
+        (b"wait 1 2 1\n0 prepare 2\n".as_slice(), 2),
+        (b"wait 1 2 1\n0 attach 1\n".as_slice(), 2),
+        (b"wait 1 1 1\n0 reset 0\n".as_slice(), 2),
+        (b"wait 1 1 1\n0 sleep\n".as_slice(), 2),
+        (b"wait 1 1 1\n0 arrive 0\n".as_slice(), 2),
+        (b"wait 1 1 1\n0 cancel\n0\n".as_slice(), 3),
+        (b"wait 1 1 1\n0 reset\n0 isset\n".as_slice(), 3),
+        (b"wait 1 1 1\n0 attach 0\n0 x2\n0 attach 0\n".as_slice(), 4),
     ];
     for (script, line) in cases {
         assert_eq!(rt; bad_line(&rt, rt.alloc(), script), line);

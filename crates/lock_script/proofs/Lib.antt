@@ -1,0 +1,3 @@
+pub mod LockLists
+pub mod LockFacts
+pub mod LockSketchFacts

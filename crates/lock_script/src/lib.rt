@@ -1,0 +1,15 @@
+//! Scripts on the machine of locks: lightweight locks with their lists and semaphores.
+#![tactic(auto)]
+
+mod calls;
+mod header;
+mod lists;
+mod locks;
+mod places;
+mod spots;
+mod steps;
+mod texts;
+mod words;
+
+pub use header::lock_header;
+pub use locks::Locks;

@@ -1,6 +1,0 @@
-use Rattle.std.proofs.Common.{sym}
-use Rattle.schedule_script.proofs.LockLists.{heads-locker}
-use Rattle.schedule_script.proofs.locks.lists.has_locker.Goals as goal
-
-pub returns : goal.returns
-returns c = sym (heads-locker c.args.list.now c.heads.result c.heads.ensures.left c.heads.ensures.within)

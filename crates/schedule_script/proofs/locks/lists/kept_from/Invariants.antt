@@ -1,6 +1,0 @@
-use Rattle.std.proofs.Common.{◌≡◌, ◌++◌, drop}
-use Rattle.lw_core.specs.WaitLists.{kept_after, kept_from}
-use Rattle.schedule_script.proofs.locks.lists.kept_from.Given as goal
-
-abbrev pub invariant-walk : goal.invariant-walk
-invariant-walk l = l.kept.items ++ kept_after l.took_shared (drop l.at l.list) ≡ kept_from l.list

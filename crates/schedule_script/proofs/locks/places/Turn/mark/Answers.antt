@@ -1,9 +1,0 @@
-use Rattle.std.proofs.Common.{◌<◌, length, refl, arith}
-use Rattle.std.proofs.lemmas.List.{take_more}
-use Rattle.schedule_script.proofs.LockLists.{drop-at, no_one}
-use Rattle.schedule_script.proofs.locks.places.Turn.mark.Goals as goal
-
-pub returns-then-told-len-clause-place : goal.returns-then-told-len-clause-place
-returns-then-told-len-clause-place c home =
-    let inside : c.args.told < length c.args.taken.items = omega arith in
-    rw (drop-at c.args.taken.items c.args.told no_one inside, take_more c.args.taken.items c.args.told no_one inside) refl

@@ -1,5 +1,0 @@
-use Rattle.std.proofs.Common.{append_assoc}
-use Rattle.schedule_script.proofs.locks.texts.push_heard.Goals as goal
-
-pub returns-in_ok-push-in-Free : goal.returns-in_ok-push-in-Free
-returns-in_ok-push-in-Free c = rw (c.in-Free.is, ← append_assoc, ← c.in_ok-push-in-Free.ensures) c.push_state-in-Free.ensures

@@ -1,5 +1,0 @@
-use Rattle.schedule_script.proofs.SignalFacts.{opening-fits}
-use Rattle.schedule_script.proofs.signals.Signals.new.Goals as goal
-
-pub invariant_of-result : goal.invariant_of-result
-invariant_of-result c = rw (c.in_ok-first_words.ensures, c.in_ok-first_backends.ensures) (opening-fits c.args.about c.requires.procs c.requires.generation)

@@ -1,0 +1,5 @@
+pub mod LineFacts
+pub mod PlayFacts
+pub mod TextFacts
+pub mod ListFacts
+pub mod Likeness

@@ -1,0 +1,3 @@
+pub mod KindFacts
+pub mod SignalFacts
+pub mod SketchFacts

@@ -1,0 +1,12 @@
+//! Scripts on the machine of signals.
+#![tactic(auto)]
+
+mod calls;
+mod header;
+mod places;
+mod signals;
+mod steps;
+mod texts;
+
+pub use header::signal_header;
+pub use signals::Signals;

@@ -1,0 +1,3 @@
+pub mod HomeFacts
+pub mod WaitFacts
+pub mod WaitSketchFacts

@@ -1,0 +1,6 @@
+use Rattle.std.proofs.Common.{◌≡◌, ◌==◌, cond, map}
+use Rattle.std.specs.List.{range_with_len}
+use Rattle.wait_script.proofs.waits.first_words.Given as goal
+
+abbrev pub invariant-words : goal.invariant-words
+invariant-words l = l.words.items ≡ map (λ i. cond (i == 0) l.size.procs 0) (range_with_len 0 l.word)
