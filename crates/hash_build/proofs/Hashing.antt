@@ -1,12 +1,12 @@
 -- What a worker may do with the rows that it hashes.
-use Rattle.std.proofs.Common.{◌≡◌, ℕ, suc, ◌+◌, ◌-◌, ◌<◌, ◌≤◌, cond, eq-eqb, List, ◌∷◌, true, false, Bool, refl, sym, ap, ◌∙◌, subst, arith, Some, None, Option}
+use Rattle.std.proofs.Common.{◌≡◌, ℕ, suc, ◌+◌, ◌-◌, ◌<◌, ◌≤◌, cond, eq-eqb, List, ◌∷◌, Bool, refl, sym, ap, ◌∙◌, subst, arith, Some, Option}
 use Rattle.row_model.specs.declared.Side.{Side}
 use Rattle.row_model.specs.declared.Side.TheVariants.{Inner, Outer}
 use Rattle.row_model.specs.declared.Route.{Route}
 use Rattle.row_model.specs.Routes as routes
 use Rattle.wait_core.specs.declared.view.WaitView.{WaitView}
 use Rattle.wait_core.specs.Parties.{phase_of}
-use Rattle.wait_core.specs.Seating.{client_moved, party_of}
+use Rattle.wait_core.specs.Seating.{client_moved}
 use Rattle.join_law.specs.declared.view.HashView.{HashView}
 use Rattle.join_law.specs.declared.view.Known.{Known}
 use Rattle.join_law.specs.Layout.{Join, SizesOf, sizes_of}

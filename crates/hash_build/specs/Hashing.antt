@@ -75,13 +75,12 @@ pub record SameWaitNumbers (v w : WaitView HashView) : Type 0 where
   pub taken : w.taken ≡ v.taken
   pub drawn : w.drawn ≡ v.drawn
 
--- how far a worker came: nothing is in hand, each chunk of inner rows is reported, and each row that was claimed was looked at once
-pub record Progress (v w : JoinSeats) (looks_before looks_after : ℕ) : Type 0 where
-  pub only : HashesOnly v.wait.view.client w.wait.view.client
-  pub known : w.wait.view.client.known ≡ v.wait.view.client.known
+-- How far a worker came: it has no row in hand, for each chunk of inner rows that it claimed the lock was granted to it, and each row that it claimed was looked at once
+pub record Reached (v w : JoinSeats) (looks_before looks_after : ℕ) : Type 0 where
   pub hand : w.wait.view.client.hand ≡ []
+  pub only : HashesOnly v.wait.view.client w.wait.view.client
   pub free : IsFree w.lock.view
-  pub numbers : SameNumbers v.lock.view w.lock.view
+  pub numbers : SameNumbers v.lock.view w.lock.view × SameWaitNumbers v.wait.view w.wait.view
   pub signal : w.signal ≡ v.signal
   pub reports : w.lock.view.grants + v.wait.view.client.chunks ≡ v.lock.view.grants + w.wait.view.client.chunks
   pub looks : looks_after + v.wait.view.client.claimed ≡ looks_before + w.wait.view.client.claimed

@@ -7,7 +7,7 @@ ghost use Rattle.join_law.specs.Views.{stretch};
 ghost use Rattle.join_party.specs.Claims.{chunk_of, count_of, first_of, has_ended};
 ghost use Rattle.join_party.specs.Joins.{join};
 ghost use Rattle.join_party.specs.Workers.{IsAt};
-ghost use Rattle.hash_build.specs.Hashing.{ClaimsNone, HashesOnly, IsFree, KnowsForGood, Progress, SameNumbers};
+ghost use Rattle.hash_build.specs.Hashing.{ClaimsNone, HashesOnly, IsFree, KnowsForGood, Reached, SameNumbers};
 
 use crate::report::report;
 use crate::rows::hash_row;
@@ -133,7 +133,8 @@ pub(crate) fn hash_side<'r, G: Gate, R: Wait, L: Ledger>(
     requires hand { seats.old.wait.view.client.hand ≡ [] }
     ensures table { IsAt tables.now seats.new × (seats.new.wait.id ≡ seats.old.wait.id) }
     ensures view { seats.new.wait.view ≡ client_moved seats.old.wait.view seats.new.wait.view.client }
-    ensures progress { Progress seats.old seats.new steps.old steps.new }
+    ensures reached { Reached seats.old seats.new steps.old steps.new }
+    ensures known { seats.new.wait.view.client.known ≡ seats.old.wait.view.client.known }
     ensures ended { has_ended seats.new.wait.view.client side ≡ true }
 {
     for _ in rt.forever() {

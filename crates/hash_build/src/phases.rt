@@ -6,7 +6,7 @@ ghost use Rattle.join_law.specs.Phases.{build};
 ghost use Rattle.join_law.specs.Quiet.{QuietAtBuild};
 ghost use Rattle.join_party.specs.Joins.{join};
 ghost use Rattle.join_party.specs.Workers.{IsAt};
-ghost use Rattle.hash_build.specs.Hashing.{IsFree, KnowsForGood, Progress, SameWaitNumbers, with_known, with_late};
+ghost use Rattle.hash_build.specs.Hashing.{IsFree, KnowsForGood, Reached, SameWaitNumbers, with_known, with_late};
 
 use crate::chunks::hash_side;
 use join_party::{HashStep, JoinSeats, JoinTables, Look};
@@ -90,7 +90,8 @@ pub(crate) fn work<'r, G: Gate, R: Wait, L: Ledger>(
     requires hand { seats.old.wait.view.client.hand ≡ [] }
     ensures table { IsAt tables.now seats.new × (seats.new.wait.id ≡ seats.old.wait.id) }
     ensures view { seats.new.wait.view ≡ client_moved seats.old.wait.view seats.new.wait.view.client }
-    ensures progress { Progress seats.old seats.new steps.old steps.new }
+    ensures reached { Reached seats.old seats.new steps.old steps.new }
+    ensures known { seats.new.wait.view.client.known ≡ seats.old.wait.view.client.known }
     ensures quiet { QuietAtBuild (join tables.now.waits.party) (party_of seats.new.wait.view) phase }
 {
     if phase == HASH_INNER {

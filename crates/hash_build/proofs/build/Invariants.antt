@@ -1,9 +1,8 @@
-use Rattle.std.proofs.Common.{◌≡◌, ◌≤◌, [], ◌∷◌, None}
+use Rattle.std.proofs.Common.{◌≡◌, [], ◌∷◌, None}
 use Rattle.join_law.specs.Phases.{build}
 use Rattle.join_party.specs.Joins.{join}
 use Rattle.join_party.specs.Workers.{IsAt}
-use Rattle.hash_build.specs.Builds.{Reached}
-use Rattle.hash_build.specs.Hashing.{KnowsForGood}
+use Rattle.hash_build.specs.Hashing.{KnowsForGood, Reached}
 use Rattle.hash_build.proofs.build.Given as goal
 
 abbrev pub invariant-loop-phase : goal.invariant-loop-phase

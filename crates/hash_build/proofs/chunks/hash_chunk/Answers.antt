@@ -1,4 +1,4 @@
-use Rattle.std.proofs.Common.{◌≡◌, ℕ, ◌+◌, ◌-◌, ◌<◌, ◌≤◌, ◌∙◌, arith}
+use Rattle.std.proofs.Common.{ℕ, ◌+◌, ◌∙◌, arith}
 use Rattle.hash_build.proofs.Hashing.{claims_none, first_gone, hashes_on, view_on}
 use Rattle.hash_build.proofs.chunks.hash_chunk.Goals as goal
 

@@ -1,15 +1,11 @@
-use Rattle.std.proofs.Common.{◌≡◌, ℕ, false, refl, sym, ap, ◌∙◌, subst}
+use Rattle.std.proofs.Common.{sym, subst}
 use Rattle.row_model.specs.declared.Side.{Side}
 use Rattle.wait_core.specs.declared.view.WaitView.{WaitView}
 use Rattle.join_law.specs.declared.view.HashView.{HashView}
 use Rattle.wait_core.specs.Seating.{party_of}
-use Rattle.join_law.specs.Layout.{Join, sizes_of}
 use Rattle.join_law.specs.Phases.{reads_sizes}
-use Rattle.join_law.proofs.Learned.{build_phase_found, sizes_fit_found}
 use Rattle.join_party.specs.Claims.{MayStillEnd}
 use Rattle.join_party.specs.Joins.{join}
-use Rattle.shared_tuples.specs.Tuples.{AreSizes}
-use Rattle.hash_build.specs.Hashing.{KnowsForGood, for_good}
 use Rattle.hash_build.proofs.Hashing.{known_ends}
 use Rattle.hash_build.proofs.phases.read_sizes.Goals as goal
 

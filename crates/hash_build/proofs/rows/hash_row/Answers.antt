@@ -1,9 +1,9 @@
-use Rattle.std.proofs.Common.{◌≡◌, ℕ, refl, sym, ap, ◌∙◌, subst, Some}
+use Rattle.std.proofs.Common.{refl, sym, subst, Some}
 use Rattle.wait_core.specs.declared.view.WaitView.{WaitView}
 use Rattle.wait_core.specs.Seating.{client_moved, party_of}
 use Rattle.join_law.specs.declared.view.HashView.{HashView}
 use Rattle.join_party.specs.Joins.{join}
-use Rattle.hash_build.specs.Hashing.{KnowsForGood, MayPlace}
+use Rattle.hash_build.specs.Hashing.{MayPlace}
 use Rattle.hash_build.proofs.Hashing.{leads_by, still_ends}
 use Rattle.hash_build.proofs.rows.hash_row.Goals as goal
 
