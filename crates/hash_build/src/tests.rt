@@ -7,6 +7,7 @@ ghost use Rattle.join_party.specs.Workers.{IsAt, IsNumbered};
 ghost use Rattle.hash_build.specs.Builds.{Begins};
 
 mod places;
+mod threads;
 
 use super::*;
 use join_party::open_tables;
