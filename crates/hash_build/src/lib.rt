@@ -11,6 +11,8 @@ mod chunks;
 mod phases;
 mod report;
 mod rows;
+#[cfg(test)]
+mod tests;
 
 use join_party::{JoinSeats, JoinTables};
 use phase_barrier::attach;
