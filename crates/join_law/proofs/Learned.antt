@@ -1,30 +1,29 @@
 -- What a seat learns from a word that it found.
-use Rattle.std.proofs.Common.{◌≡◌, ◌⊎◌, ℕ, suc, ◌+◌, ◌<◌, ◌≤◌, List, [], ◌∷◌, ◌++◌, true, get_or, refl, sym, ap, ◌∙◌, subst, arith, inl, inr, ⊎_elim, Some, Option}
+use Rattle.std.proofs.Common.{◌≡◌, ◌⊎◌, ℕ, zero, suc, ◌+◌, ◌^◌, ◌<◌, ◌≤◌, List, [], ◌∷◌, ◌++◌, length, true, get_or, refl, sym, ap, ◌∙◌, subst, arith, inl, inr, ⊎_elim, Some, Option}
 use mathlib.Core.Logic.{dite}
 use native.Mathlib.Decide.{dec_le}
 use Rattle.seat_roster.specs.Roster.{times}
-use Rattle.seat_roster.specs.Totals.{total}
 use Rattle.seat_roster.proofs.Totals.{total_at}
 use Rattle.seat_roster.proofs.Numbers.{times_append}
 use Rattle.wait_core.specs.Ops.{op_at}
 use Rattle.wait_core.specs.Parties.{IsStep}
 use Rattle.row_model.specs.declared.Side.TheVariants as side
 use Rattle.join_law.specs.declared.step.HashStep.{HashStep}
-use Rattle.join_law.specs.declared.step.HashStep.TheVariants.{Load, Take}
+use Rattle.join_law.specs.declared.step.HashStep.TheVariants.{Load, Take, AddResults}
 use Rattle.join_law.specs.declared.step.Look.TheVariants.{Plain, Cursor, WalkHead, WalkNext}
 use Rattle.join_law.specs.declared.step.Look.TheVariants as look
 use Rattle.join_law.specs.declared.step.Word.TheVariants as word
 use Rattle.join_law.specs.Layout.{Join, Inside, sizes_of, place, read, rows, heads}
 use Rattle.join_law.specs.Routes.{batch_of, chain_at}
 use Rattle.join_law.specs.Phases.{build, batch_bar, HASH_OUTER, RUN, FREE, LOAD, PROBE, growth_place, known_word}
-use Rattle.join_law.specs.Views.{View, below, held}
+use Rattle.join_law.specs.Views.{View, below, held, results_of, partners}
 use Rattle.join_law.specs.declared.view.Known.{Known}
 use Rattle.join_law.specs.declared.view.Taking.{Taking}
 use Rattle.join_law.specs.declared.view.Walk.{Walk}
 use Rattle.join_law.specs.declared.step.Source.{Source}
 use Rattle.join_law.specs.declared.step.Source.TheVariants as from
 use Rattle.join_law.specs.Machine.{InHand, At, MayTake, TakeIsReady, May, step_op, word_of}
-use Rattle.join_law.specs.Stands.{Stands, SizesFit, Links, Listed, Frozen, at_head}
+use Rattle.join_law.specs.Stands.{Stands, SizesFit, Links, Listed, Frozen, at_head, meeting}
 use Rattle.join_law.proofs.Rows.{one, one_same, listed_total, listed_inside, links_row}
 use Rattle.join_law.proofs.Heads.{chain_inside, chain_no_outer}
 use Rattle.join_law.proofs.SizesInForce.{in_force_later}
@@ -32,11 +31,22 @@ use Rattle.join_law.proofs.TakeKeeps.{OfSource, of_source}
 use Rattle.join_law.proofs.TakeHeads.{sizes_at_batch, sizes_while_hashed}
 use Rattle.join_law.proofs.Flat.{flat_read}
 use Rattle.join_law.proofs.Laws.{op_spot, in_range}
-use Rattle.join_law.proofs.Results.{chain_has}
+use Rattle.join_law.proofs.Results.{chain_has, walked_all}
+use Rattle.join_law.proofs.Counts.{counted_exactly, few_results, few_pairs}
 
 -- a seat works by the sizes that it knows: rows may be put while growths may come, or build is past HASH_INNER
 abbrev pub WorksBySizes : Join → View → Type 0
 WorksBySizes j v = (growth_place j v ≡ true) ⊎ ((ph : ℕ) × (At v build ph) × (HASH_OUTER ≤ ph))
+
+-- the row that a word names
+abbrev pub named_row : ℕ → List ℕ
+named_row zero = []
+named_row (suc r) = r ∷ []
+
+-- it is the first of what the next words give
+named_first : (nexts : List ℕ) (w x : ℕ) (l : List ℕ) → Links nexts w l → times x (named_row w) ≤ times x l
+named_first nexts w x [] e = let z : times x (named_row w) ≡ 0 = ap (λ n. times x (named_row n)) e in omega arith
+named_first nexts w x (r ∷ rs) e = let z : times x (named_row w) ≡ one x r + 0 = ap (λ n. times x (named_row n)) e.0 in let b : times x (r ∷ rs) ≡ one x r + times x rs = refl in omega arith
 
 -- a word names the first row of its list, or none
 row_or_end : (nexts : List ℕ) (w : ℕ) (l : List ℕ) → Links nexts w l → (w ≡ 0) ⊎ ((r : ℕ) × (w ≡ suc r) × (1 ≤ times r l))
@@ -138,21 +148,68 @@ module _ (j : Join) (words : List ℕ) (views : List View) (phases : List ℕ) (
       ⊎_elim (λ none. inl (e ∙ none)) (λ some. inr (some.0, e ∙ some.1, chain_row x some.0 (subst (λ (k : ℕ). Listed h.lists k some.0) is some.2)))
       (row_or_end h.memory.nexts (get_or h.memory.heads head 0) (at_head h.lists head) (h.parts.links.links head inside))
 
-  pub walk_next_found : (q : Walk) (inner n : ℕ) → v.client.walk ≡ Some q → q.stood ≡ suc inner → get_or words (op_at (step_op j (Load (WalkNext inner)))) 0 ≡ n → (n ≡ 0) ⊎ ((r : ℕ) × (n ≡ suc r) × (r < j.inner))
-  walk_next_found q inner n walks stood found =
+  -- a walk stands in the chain of its row's hash
+  reached : (q : Walk) (inner : ℕ) → v.client.walk ≡ Some q → q.stood ≡ suc inner
+      → (x : ℕ) × (rest : List ℕ) × (at_head h.lists (chain_at j (sizes_of h.memory.sizes) x) ≡ q.passed ++ (inner ∷ rest)) × (Links h.memory.nexts (get_or h.memory.nexts inner 0) rest) × (Listed h.lists (chain_at j (sizes_of h.memory.sizes) x) inner)
+  reached q inner walks stood =
       let f = h.parts.walks.fits id v s.at q walks in
       let row = links_row h.memory.nexts q.stood inner f.rest stood f.stands in
-      let chain : at_head h.lists (chain_at j (sizes_of h.memory.sizes) f.hash) ≡ q.passed ++ (inner ∷ row.0) = f.chain ∙ ap (λ l. q.passed ++ l) row.1 in
-      let here : Listed h.lists (chain_at j (sizes_of h.memory.sizes) f.hash) inner =
-      subst (λ l. 1 ≤ times inner l) (sym chain) (let t = times_append inner q.passed (inner ∷ row.0) in let o = one_same inner inner refl in let b : times inner (inner ∷ row.0) ≡ one inner inner + times inner row.0 = refl in omega arith) in
-      let e = word_found (Load (WalkNext inner)) n found (listed_row (chain_at j (sizes_of h.memory.sizes) f.hash) inner here) in
+      let chain : at_head h.lists (chain_at j (sizes_of h.memory.sizes) f.hash) ≡ q.passed ++ (inner ∷ row.0) = f.chain ∙ ap (λ l. q.passed ++ l) row.1 in (
+        f.hash,
+        row.0,
+        chain,
+        row.2,
+        subst (λ l. 1 ≤ times inner l) (sym chain) (let t = times_append inner q.passed (inner ∷ row.0) in let o = one_same inner inner refl in let b : times inner (inner ∷ row.0) ≡ one inner inner + times inner row.0 = refl in omega arith),
+      )
+
+  pub walk_next_found : (q : Walk) (inner n : ℕ) → v.client.walk ≡ Some q → q.stood ≡ suc inner → get_or words (op_at (step_op j (Load (WalkNext inner)))) 0 ≡ n → (n ≡ 0) ⊎ ((r : ℕ) × (n ≡ suc r) × (r < j.inner))
+  walk_next_found q inner n walks stood found =
+      let here = reached q inner walks stood in
+      let e = word_found (Load (WalkNext inner)) n found (listed_row (chain_at j (sizes_of h.memory.sizes) here.0) inner here.4) in
       ⊎_elim (λ none. inl (e ∙ none))
       (λ some. inr (
         some.0,
         e ∙ some.1,
-        chain_row f.hash some.0 (subst (λ l. 1 ≤ times some.0 l) (sym chain) (let t = times_append some.0 q.passed (inner ∷ row.0) in let b : times some.0 (inner ∷ row.0) ≡ one some.0 inner + times some.0 row.0 = refl in let m = some.2 in omega arith)),
+        chain_row here.0 some.0 (subst (λ l. 1 ≤ times some.0 l) (sym here.2) (let t = times_append some.0 q.passed (inner ∷ here.1) in let b : times some.0 (inner ∷ here.1) ≡ one some.0 inner + times some.0 here.1 = refl in let m = some.2 in omega arith)),
       ))
-      (row_or_end h.memory.nexts (get_or h.memory.nexts inner 0) row.0 row.2)
+      (row_or_end h.memory.nexts (get_or h.memory.nexts inner 0) here.1 here.3)
+
+  -- the hash word of the row where a walk stands is the hash of its key
+  pub walk_hash_found : (q : Walk) (inner n : ℕ) → v.client.walk ≡ Some q → q.stood ≡ suc inner → get_or words (op_at (step_op j (Load (Plain (word.Hash inner))))) 0 ≡ n → (inner < j.inner) × (j.hash inner ≡ Some n)
+  walk_hash_found q inner n walks stood found =
+      let here = reached q inner walks stood in
+      let e = word_found (Load (Plain (word.Hash inner))) n found (listed_row (chain_at j (sizes_of h.memory.sizes) here.0) inner here.4) in
+      let right = h.parts.hashes.listed (chain_at j (sizes_of h.memory.sizes) here.0) inner here.4 in
+      (chain_row here.0 inner here.4, right.1 ∙ ap Some (sym right.2 ∙ sym e))
+
+  -- what a walk passed, and the row where it stands, are inner rows, each once
+  pub walk_rows : (q : Walk) → v.client.walk ≡ Some q → (x : ℕ) → (times x (q.passed ++ named_row q.stood) ≤ 1) × (1 ≤ times x (q.passed ++ named_row q.stood) → x < j.inner)
+  walk_rows q walks x =
+      let f = h.parts.walks.fits id v s.at q walks in
+      let chain : ℕ = chain_at j (sizes_of h.memory.sizes) f.hash in
+      let first = named_first h.memory.nexts q.stood x f.rest f.stands in
+      let a = times_append x q.passed (named_row q.stood) in
+      let b = times_append x q.passed f.rest in
+      let c : times x (at_head h.lists chain) ≡ times x (q.passed ++ f.rest) = ap (times x) f.chain in
+      let inside = chain_inside j (sizes_of h.memory.sizes) h.parts.fit f.hash in
+      let many = h.parts.links.many in
+      let t = listed_total h.lists chain (let i : chain < length h.lists = omega arith in i) x in
+      let o = h.parts.place.once x in
+      let most : below x (rows j) ≤ 1 = omega arith in
+      (omega arith, λ some. chain_row f.hash x (omega arith))
+
+  -- a walk at its end: what the result add finds counts all pairs that the seat found before, and those of this row fit
+  pub results_found : (q : Walk) (n : ℕ) → v.client.walk ≡ Some q → q.stood ≡ 0 → get_or words (op_at (step_op j (AddResults q.row (length (partners j q.row q.passed))))) 0 ≡ n
+      → (results_of v ≤ n) × (n + length (partners j q.row q.passed) < 2 ^ 64) × ((i : ℕ) → times i (partners j q.row q.passed) ≡ meeting j q.row i)
+  results_found q n walks stood found =
+      let e = word_found (AddResults q.row (length (partners j q.row q.passed))) n found (omega arith) in
+      let exact = counted_exactly j h.memory h.lists h.growth views phases h.parts in
+      let few = few_results j h.memory h.lists h.growth views phases h.parts in
+      let mine = total_at results_of views id v s.at in
+      let all = walked_all j h.memory h.lists h.growth views phases h.parts id v s q walks stood in
+      let pairs = few_pairs j h.memory h.lists h.growth views phases h.parts (record { row = q.row; pairs = partners j q.row q.passed }) all in
+      let room = h.parts.meet.few in
+      (omega arith, omega arith, all)
 
   -- an inner row of a batch that the seat probes stands in its chain, once
   pub chain_found : (row x : ℕ) → row < j.inner → j.hash row ≡ Some x → At v build RUN → At v (batch_bar (batch_of (sizes_of h.memory.sizes) x)) PROBE → times row (at_head h.lists (chain_at j (sizes_of h.memory.sizes) x)) ≡ 1

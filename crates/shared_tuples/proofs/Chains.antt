@@ -1,11 +1,13 @@
 -- Where a route's chain stands in its half.
-use Rattle.std.proofs.Common.{◌≡◌, ℕ, ◌+◌, ◌*◌, ◌<◌, ◌≤◌, sym, ◌∙◌, subst, arith}
+use Rattle.std.proofs.Common.{◌≡◌, ℕ, ◌+◌, ◌*◌, ◌<◌, ◌≤◌, sym, ap, ◌∙◌, subst, arith}
 use Rattle.std.proofs.lemmas.Option.{same_Some}
 use Rattle.row_model.specs.declared.Route.{Route}
 use Rattle.join_law.specs.Layout.{Join, SizesOf, sizes_of}
 use Rattle.join_law.specs.Phases.{WithSizes, known_word}
 use Rattle.join_law.specs.Stands.{SizesFit}
 use Rattle.join_law.specs.Views.{View}
+use Rattle.row_model.specs.Routes as routes
+use Rattle.join_law.proofs.Callers.{with_there}
 use Rattle.join_law.proofs.Heads.{bucket_below, batch_below, route_below}
 use Rattle.shared_tuples.specs.declared.sizes.Sizes.{Sizes}
 use Rattle.shared_tuples.specs.Tuples.{AreSizes, IsRoute}
@@ -26,3 +28,12 @@ chain_fits j v s route chains sizes leads same =
     let one : b.0 ≡ a.0 = same_Some b.0 a.0 (sym b.1 ∙ a.1) in
     let both = chain_index j s (sizes_of a.0) route a.2.0 a.2.1 (subst (λ (w : ℕ). IsRoute (sizes_of w) route) one b.2) in
     (both.0, subst (λ (n : ℕ). route.batch * s.buckets + route.bucket < n) (sym same) both.1)
+
+-- the route that was computed of a hash, by the sizes as the code has them
+pub hash_route : (j : Join) (v : View) (s : Sizes) (route : Route) (x : ℕ) → WithSizes v (λ z. AreSizes s z × SizesFit j z) → route.bucket ≡ routes.bucket_of s.buckets x → route.batch ≡ routes.batch_of s.buckets s.batches x → WithSizes v (λ z. IsRoute z route)
+hash_route j v s route x sizes bucket batch =
+    let a = with_is (known_word v) (λ w. AreSizes s (sizes_of w) × SizesFit j (sizes_of w)) sizes in
+    let z : SizesOf = sizes_of a.0 in
+    let b : routes.bucket_of z.buckets x ≡ route.bucket = ap (λ (n : ℕ). routes.bucket_of n x) (sym a.2.0.1) ∙ sym bucket in
+    let c : routes.batch_of z.buckets z.batches x ≡ route.batch = ap {A = ℕ × ℕ} (λ n. routes.batch_of n.0 n.1 x) (λ i. (sym a.2.0.1 i, sym a.2.0.2 i)) ∙ sym batch in
+    with_there (known_word v) _ a.0 a.1 (x, (b, c))

@@ -3,6 +3,7 @@ ghost use Rattle.std.specs.Prelude.{◌≡◌, ◌+◌, ◌*◌, ◌<◌, ◌≤
 ghost use Rattle.wait_core.specs.Seating.{party_of};
 ghost use Rattle.join_law.specs.Layout.{heads};
 ghost use Rattle.join_law.specs.Phases.{WithSizes};
+ghost use Rattle.join_law.specs.Routes.{chain_at};
 ghost use Rattle.join_party.specs.Joins.{join};
 ghost use Rattle.shared_tuples.specs.Lists.{IsStore, MayTakeFrom, chain_head, store_head};
 ghost use Rattle.shared_tuples.specs.Tuples.{IsRoute, KnowsSizes, MayTakeOut};
@@ -45,6 +46,26 @@ pub(crate) fn chain_head<'r>(
 {
     let chains = waits.party().chains;
     let sizes = read_sizes(waits, seat);
+    chain_place(chains, sizes, route)
+}
+
+/// The head of the chain to which a hash leads.
+pub fn chain_of<'r>(
+    waits: &WaitTable<HashParty<'r>>,
+    seat: &mut WaitSeat<HashParty<'r>>,
+    hash: u32,
+) -> u32
+    requires table { seat.old.table_id ≡ waits.now.table_id }
+    requires idle { seat.old.view.place ≡ [] }
+    requires known { KnowsSizes (join waits.now.party) (party_of seat.old.view) }
+    ensures table { (seat.new.table_id ≡ seat.old.table_id) × (seat.new.id ≡ seat.old.id) }
+    ensures view { seat.new.view ≡ seat.old.view }
+    ensures inside { result < heads (join waits.now.party) }
+    ensures head { WithSizes (party_of seat.old.view) (λ z. result ≡ chain_at (join waits.now.party) z hash) }
+{
+    let chains = waits.party().chains;
+    let sizes = read_sizes(waits, seat);
+    let route = Route::of(hash, sizes.buckets, sizes.batches);
     chain_place(chains, sizes, route)
 }
 

@@ -13,6 +13,7 @@ mod heads;
 mod lists;
 mod sizes;
 
+pub use heads::chain_of;
 use heads::{chain_head, source_of, store_head};
 use join_party::{JoinSeats, JoinTables};
 use lists::{push, take_first};

@@ -1,4 +1,4 @@
-use Rattle.std.proofs.Common.{◌≡◌, ◌≤◌, ℕ, subst, arith}
+use Rattle.std.proofs.Common.{◌≡◌, ℕ, subst}
 use Rattle.wait_core.specs.Seating.{party_of}
 use Rattle.join_law.specs.Layout.{sizes_of}
 use Rattle.join_law.specs.Phases.{known_word}

@@ -1,0 +1,120 @@
+-- What a seat may do with the row that it probes, and what it knows then.
+use Rattle.std.proofs.Common.{◌≡◌, ℕ, ◌+◌, ◌-◌, ◌^◌, ◌<◌, ◌≤◌, List, [], ◌++◌, length, get_or, refl, sym, ap, ◌∙◌, arith, inr, Some, Result, Ok, Err}
+use Rattle.std.proofs.lemmas.List.{length-append, length-map, get_or_past}
+use Rattle.std.proofs.lemmas.Option.{none-some, same_Some}
+use native.Mathlib.Decide.{dec_le}
+use mathlib.Core.Logic.{dite}
+use Rattle.row_model.specs.declared.Pair.{Pair}
+use Rattle.row_model.specs.declared.Side.{Side}
+use Rattle.row_model.specs.declared.Side.TheVariants.{Inner, Outer}
+use Rattle.row_model.specs.Table.{key_of}
+use Rattle.row_model.specs.Hash.{hash_of_key}
+use Rattle.row_model.proofs.HashFacts.{hash_few}
+use Rattle.wait_core.specs.declared.view.WaitView.{WaitView}
+use Rattle.wait_core.specs.Ops.{op_at}
+use Rattle.wait_core.specs.Parties.{IsStep}
+use Rattle.wait_core.specs.Seating.{client_moved, party_of}
+use Rattle.join_law.specs.declared.view.HashView.{HashView}
+use Rattle.join_law.specs.declared.view.Probed.{Probed}
+use Rattle.join_law.specs.declared.view.Walk.{Walk}
+use Rattle.join_law.specs.declared.step.HashStep.TheVariants.{Load, AddResults}
+use Rattle.join_law.specs.declared.step.Look.TheVariants.{Plain}
+use Rattle.join_law.specs.declared.step.Word.TheVariants.{Hash}
+use Rattle.join_law.specs.Layout.{Join, heads, rows, sizes_of}
+use Rattle.join_law.specs.Machine.{At, after, step_op}
+use Rattle.join_law.specs.Phases.{WithSizes, known_word, batch_bar, RUN, PROBE}
+use Rattle.join_law.specs.Routes.{batch_of, chain_at}
+use Rattle.join_law.specs.Stands.{Stands}
+use Rattle.join_law.specs.Views.{View, partners, pairs_in}
+use Rattle.join_law.proofs.Callers.{with_there}
+use Rattle.join_law.proofs.Learned.{hash_found, results_found, walk_rows, named_row}
+use Rattle.join_party.specs.Claims.{MayStillEnd}
+use Rattle.join_party.specs.declared.party.HashParty.{HashParty}
+use Rattle.join_party.specs.Joins.{join}
+use Rattle.shared_tuples.specs.Tuples.{KnowsSizes}
+use Rattle.shared_tuples.proofs.Tuples.{routed, still_ends, with_is}
+use Rattle.hash_probe.specs.Looks.{agreeing_among, walk_of}
+use Rattle.hash_probe.specs.Probing.{GivesUpRow, MayProbe, ProbesRow, with_given, with_probed}
+use Rattle.hash_probe.specs.Walks.{IsKeyed, MayWalk, pairs_among, walking}
+use Rattle.hash_probe.proofs.Comparing.{agreeing_few, outer_hash}
+
+-- an outer row with a key is there
+keyed_there : (p : HashParty) (row x : ℕ) → length p.inner.now.rows ≤ row → (join p).hash row ≡ Some x → row < rows (join p)
+keyed_there p row x past key =
+    let n : ℕ = length p.inner.now.rows in
+    dite (dec_le (rows (join p)) row)
+    (λ far.
+    let none : key_of p.outer.now (row - n) ≡ [] = ap (λ l. get_or l p.outer.now.column []) (get_or_past p.outer.now.rows (row - n) [] (omega arith)) in
+    absurd (none-some x (sym (ap hash_of_key none) ∙ (sym (outer_hash p row past) ∙ key))))
+    (λ near. omega arith)
+
+pub row_there : (p : HashParty) (v : View) (row : ℕ) → MayProbe (join p) v row → row < rows (join p)
+row_there p v row may = let r = routed (join p) v row (λ z x. At v (batch_bar (batch_of z x)) PROBE) may.probing in keyed_there p row r.0 may.outer r.2
+
+-- its hash has 32 bits
+pub key_few : (p : HashParty) (row hash : ℕ) → IsKeyed (join p) row hash → hash < 2 ^ 32
+key_few p row hash k = hash_few (key_of p.outer.now (row - length p.inner.now.rows)) hash (sym (outer_hash p row k.outer) ∙ k.key)
+
+pub knows_sizes : (j : Join) (v : View) (row : ℕ) → MayProbe j v row → KnowsSizes j v
+knows_sizes j v row may = let r = routed j v row (λ z x. At v (batch_bar (batch_of z x)) PROBE) may.probing in (with_there (known_word v) _ r.1 r.3 tt, inr (RUN, may.running, omega arith))
+
+pub may_walk : (j : Join) (v : View) (row hash head : ℕ) → MayProbe j v row → j.hash row ≡ Some hash → head < heads j → WithSizes v (λ z. head ≡ chain_at j z hash) → MayWalk j v row head
+may_walk j v row hash head may key inside at =
+    let r = routed j v row (λ z x. At v (batch_bar (batch_of z x)) PROBE) may.probing in
+    let a = with_is (known_word v) (λ w. head ≡ chain_at j (sizes_of w) hash) at in
+    let same : hash ≡ r.0 = same_Some hash r.0 (sym key ∙ r.2) in
+    let one : a.0 ≡ r.1 = same_Some a.0 r.1 (sym a.1 ∙ r.3) in
+    let is : head ≡ chain_at j (sizes_of r.1) r.0 = a.2 ∙ ap {A = ℕ × ℕ} (λ n. chain_at j (sizes_of n.0) n.1) (λ i. (one i, same i)) in
+    record { inside = inside; probing = (may.ready.0, may.outer, with_there (j.hash row) _ r.0 r.2 (with_there (known_word v) _ r.1 r.3 (r.4, is))) }
+
+-- how many pairs were added
+pub how_many : (j : Join) (row : ℕ) (passed : List ℕ) (before after : List Pair) → after ≡ before ++ pairs_among j row passed → length after ≡ length before + length (partners j row passed)
+how_many j row passed before after is = ap length is ∙ (length-append before (pairs_among j row passed) ∙ ap (λ (n : ℕ). length before + n) (length-map (partners j row passed) _))
+
+module _ (p : HashParty) (words : List ℕ) (views : List View) (phases : List ℕ) (h : Stands (join p) words views phases) (id : ℕ) (w : WaitView HashView) (s : IsStep views phases id (party_of w)) where
+  abbrev j : Join
+  j = join p
+
+  -- the row's hash word
+  pub row_hash : (row n : ℕ) → MayProbe j (party_of w) row → get_or words (op_at (step_op j (Load (Plain (Hash row))))) 0 ≡ n → IsKeyed j row n
+  row_hash row n may found =
+      let there = row_there p (party_of w) row may in
+      record { outer = may.outer; there = there; key = hash_found j words views phases h id (party_of w) s row n found there may.ready.1 }
+
+  -- the looks of a walk
+  pub looks_few : (v : WaitView HashView) (row hash stood : ℕ) (passed : List ℕ) → IsKeyed j row hash → w ≡ walking v row passed stood → agreeing_among p.inner.now p.buckets hash (passed ++ named_row stood) ≤ walk_of p.outer.now p.inner.now p.buckets row
+  looks_few v row hash stood passed k is = agreeing_few p row hash (passed ++ named_row stood) k.outer k.key
+      (walk_rows j words views phases h id (party_of w) s (record { row = row; passed = passed; stood = stood }) (ap (λ (y : WaitView HashView). y.client.walk) is))
+
+  -- the row was probed
+  pub probed_row : (v u : WaitView HashView) (row count n : ℕ) (passed : List ℕ) (before pairs : List Pair) → w ≡ walking v row passed 0 → pairs ≡ before ++ pairs_among j row passed → count ≡ length (partners j row passed)
+      → get_or words (op_at (step_op j (AddResults row count))) 0 ≡ n → u ≡ client_moved w (after j (party_of w) (AddResults row count) n) → ProbesRow j v u row before pairs (n + count)
+  probed_row v u row count n passed before pairs is more many found then =
+      let q : Walk = record { row = row; passed = passed; stood = 0 } in
+      let r : Probed = record { row = row; pairs = partners j row passed } in
+      let facts = results_found j words views phases h id (party_of w) s q n (ap (λ (y : WaitView HashView). y.client.walk) is) refl found in
+      let view : u ≡ client_moved v (with_probed v.client r) = then ∙ ap (λ (y : WaitView HashView). client_moved y (after j (party_of y) (AddResults row count) n)) is in
+      let mine : pairs_in w.client.probed ≡ pairs_in v.client.probed = ap (λ (y : WaitView HashView). pairs_in y.client.probed) is in
+      let all : pairs_in u.client.probed ≡ length (partners j row passed) + pairs_in v.client.probed = ap (λ (y : WaitView HashView). pairs_in y.client.probed) view in
+      let least : pairs_in w.client.probed ≤ n = facts.0 in
+      record { probed = r; same = refl; view = view; once = facts.2; pairs = more; counted = omega arith }
+
+  pub results_fit : (v : WaitView HashView) (row count n : ℕ) (passed : List ℕ) → w ≡ walking v row passed 0 → count ≡ length (partners j row passed) → get_or words (op_at (step_op j (AddResults row count))) 0 ≡ n → n + count < 2 ^ 64
+  results_fit v row count n passed is many found =
+      let q : Walk = record { row = row; passed = passed; stood = 0 } in
+      let facts = results_found j words views phases h id (party_of w) s q n (ap (λ (y : WaitView HashView). y.client.walk) is) refl found in
+      let few = facts.1 in omega arith
+
+-- a seat that probed a row or gave it up may still find an end by an add
+probed_ends : (c : HashView) (r : Probed) → ((side : Side) → MayStillEnd c side) → (side : Side) → MayStillEnd (with_probed c r) side
+probed_ends c r may Inner = may Inner
+probed_ends c r may Outer = may Outer
+
+given_ends : (c : HashView) (row : ℕ) → ((side : Side) → MayStillEnd c side) → (side : Side) → MayStillEnd (with_given c row) side
+given_ends c row may Inner = may Inner
+given_ends c row may Outer = may Outer
+
+pub row_ends : {E : Type 0} (j : Join) (result : Result ℕ E) (v w : WaitView HashView) (row : ℕ) (before pairs : List Pair)
+    → Rattle.std.specs.Prelude.IfOk result (ProbesRow j v w row before pairs) → Rattle.std.specs.Prelude.OnErr result (GivesUpRow v w row before pairs) → ((side : Side) → MayStillEnd v.client side) → (side : Side) → MayStillEnd w.client side
+row_ends j (Ok count) v w row before pairs probed given may = still_ends v w _ probed.view (probed_ends v.client probed.probed may)
+row_ends j (Err e) v w row before pairs probed given may = still_ends v w _ given.view (given_ends v.client row may)

@@ -1,0 +1,54 @@
+//! How an outer row is probed: its chain is walked, and the number of its pairs is added to the result
+//! count.
+ghost use Rattle.std.specs.Prelude.{◌≡◌, ◌≤◌, ◌+◌, ◌++◌, [], IfOk, OnErr, length};
+ghost use Rattle.wait_core.specs.Seating.{client_moved, party_of};
+ghost use Rattle.join_party.specs.Joins.{join};
+ghost use Rattle.hash_probe.specs.Looks.{walk_of};
+ghost use Rattle.hash_probe.specs.Probing.{GivesUpRow, MayProbe, ProbesRow};
+
+use crate::walks::walk;
+use join_party::{HashParty, HashStep, Look, Word};
+use proc_table::{NoMemory, Steps};
+use row_model::Pair;
+use shared_tuples::chain_of;
+use std::sync::Wait;
+use std::sync::ledger::Ledger;
+use wait_core::{WaitSeat, WaitTable};
+
+// Probes an outer row in hand.
+pub(crate) fn probe<'r, R: Wait, L: Ledger>(
+    rt: &R,
+    waits: &WaitTable<HashParty<'r>>,
+    seat: &mut WaitSeat<HashParty<'r>>,
+    row: u32,
+    pairs: &mut Vec<Pair>,
+    steps: &mut Steps<L>,
+) -> Result<u64, NoMemory>
+    requires table { seat.old.table_id ≡ waits.now.table_id }
+    requires idle { seat.old.view.place ≡ [] }
+    requires row { MayProbe (join waits.now.party) (party_of seat.old.view) row }
+    ensures table { (seat.new.table_id ≡ seat.old.table_id) × (seat.new.id ≡ seat.old.id) }
+    ensures probed { IfOk result (ProbesRow (join waits.now.party) seat.old.view seat.new.view row pairs.old.items pairs.new.items) }
+    ensures given { OnErr result (GivesUpRow seat.old.view seat.new.view row pairs.old.items pairs.new.items) }
+    ensures looks { steps.new ≤ steps.old + walk_of waits.now.party.outer.now waits.now.party.inner.now waits.now.party.buckets row }
+{
+    let hash = waits
+        .client(seat, HashStep::Load(Look::Plain(Word::Hash(row))))
+        .old as u32;
+    let head = chain_of(waits, seat, hash);
+    let before = pairs.len();
+    match walk(rt, waits, seat, row, hash, head, pairs, steps) {
+        Ok(()) => {
+            let count = (pairs.len() - before) as u64;
+            let results = waits
+                .client(seat, HashStep::AddResults { row, pairs: count })
+                .old;
+            Ok(results + count)
+        }
+        Err(refused) => {
+            pairs.truncate(before);
+            waits.client(seat, HashStep::Load(Look::GiveUp { row }));
+            Err(refused)
+        }
+    }
+}
