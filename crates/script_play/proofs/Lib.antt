@@ -3,3 +3,4 @@ pub mod PlayFacts
 pub mod TextFacts
 pub mod ListFacts
 pub mod Likeness
+pub mod Keeping

@@ -10,11 +10,11 @@ use Rattle.std.proofs.lemmas.Bool.{cases_Bool, ne_eqb}
 use Rattle.std.proofs.lemmas.Nat.Bits.{shr_and_one}
 use Rattle.signal_script.specs.Signals.{kinds_in, kinds_text, lowest}
 
-lowest-step : (failed left : ℕ) → eqb (bit_at failed (31 - left)) 1 ≡ true → lowest failed (suc left) ≡ 31 - left
+pub lowest-step : (failed left : ℕ) → eqb (bit_at failed (31 - left)) 1 ≡ true → lowest failed (suc left) ≡ 31 - left
 unfolding lowest
 lowest-step failed left t = rw t refl
 
-lowest-skip : (failed left : ℕ) → eqb (bit_at failed (31 - left)) 1 ≡ false → lowest failed (suc left) ≡ lowest failed left
+pub lowest-skip : (failed left : ℕ) → eqb (bit_at failed (31 - left)) 1 ≡ false → lowest failed (suc left) ≡ lowest failed left
 unfolding lowest
 lowest-skip failed left f = rw f refl
 

@@ -1,3 +1,4 @@
 pub mod Signals
 pub mod SignalScripts
 pub mod SignalSketch
+pub mod Passed
