@@ -1,3 +1,4 @@
+pub mod Hashes
 pub mod Comparing
 pub mod Walking
 pub mod Probing

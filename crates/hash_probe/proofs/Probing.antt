@@ -9,7 +9,7 @@ use Rattle.row_model.specs.declared.Side.{Side}
 use Rattle.row_model.specs.declared.Side.TheVariants.{Inner, Outer}
 use Rattle.row_model.specs.Table.{key_of}
 use Rattle.row_model.specs.Hash.{hash_of_key}
-use Rattle.row_model.proofs.HashFacts.{hash_few}
+use Rattle.hash_probe.proofs.Hashes.{hash_few}
 use Rattle.wait_core.specs.declared.view.WaitView.{WaitView}
 use Rattle.wait_core.specs.Ops.{op_at}
 use Rattle.wait_core.specs.Parties.{IsStep}
