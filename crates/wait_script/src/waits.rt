@@ -146,15 +146,14 @@ fn first_words(alloc: Global, size: Size) -> Result<Vec<u64>, AllocError>
 fn first_home(alloc: Global, phase: u64) -> Home
     ensures { kept_of result ≡ first_home phase }
 {
-    Home {
-        list: Vec::new(alloc),
-        record: Record {
-            phase,
-            participants: 0,
-            arrived: 0,
-            elected: phase,
-        },
-    }
+    let record = Record {
+        phase,
+        participants: 0,
+        arrived: 0,
+        elected: phase,
+    };
+    let list = Vec::new(alloc);
+    Home { list, record }
 }
 
 fn first_homes(alloc: Global, opening: Opening) -> Result<Vec<Home>, AllocError>
