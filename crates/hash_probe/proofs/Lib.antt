@@ -1,3 +1,6 @@
+pub mod Hits
 pub mod Comparing
+pub mod Loop
+pub mod Counting
 pub mod Walking
 pub mod Probing
