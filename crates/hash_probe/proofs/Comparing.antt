@@ -101,7 +101,7 @@ none_in a (suc n) i out =
     let z = one_other i a ne in
     let r = none_in (a + 1) n i (⊎_elim (λ x. inl (omega arith)) (λ x. inr (omega arith)) out) in omega arith
 
-once_in : (a n i : ℕ) → a ≤ i → i < a + n → times i (range_with_len a n) ≡ 1
+pub once_in : (a n i : ℕ) → a ≤ i → i < a + n → times i (range_with_len a n) ≡ 1
 once_in a zero i low high = absurd (omega arith)
 once_in a (suc n) i low high = ⊎_elim
     (λ (e : a ≡ i). let z = one_same i a e in let r = none_in (a + 1) n i (inl (omega arith)) in omega arith)

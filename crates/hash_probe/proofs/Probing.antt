@@ -1,5 +1,5 @@
 -- What a seat may do with the row that it probes, and what it knows then.
-use Rattle.std.proofs.Common.{◌≡◌, ℕ, ◌+◌, ◌-◌, ◌^◌, ◌<◌, ◌≤◌, List, [], ◌++◌, length, get_or, refl, sym, ap, ◌∙◌, arith, inr, Some, Result, Ok, Err}
+use Rattle.std.proofs.Common.{◌≡◌, ℕ, ◌+◌, ◌-◌, ◌^◌, ◌<◌, ◌≤◌, List, [], ◌++◌, length, get_or, refl, sym, ap, ◌∙◌, subst, arith, inr, Some, Option, Result, Ok, Err}
 use Rattle.std.proofs.lemmas.List.{length-append, length-map, get_or_past}
 use Rattle.std.proofs.lemmas.Option.{none-some, same_Some}
 use native.Mathlib.Decide.{dec_le}
@@ -7,7 +7,7 @@ use mathlib.Core.Logic.{dite}
 use Rattle.row_model.specs.declared.Pair.{Pair}
 use Rattle.row_model.specs.declared.Side.{Side}
 use Rattle.row_model.specs.declared.Side.TheVariants.{Inner, Outer}
-use Rattle.row_model.specs.Table.{key_of}
+use Rattle.row_model.specs.Table.{key_of, nested_loop}
 use Rattle.row_model.specs.Hash.{hash_of_key}
 use Rattle.hash_probe.proofs.Hashes.{hash_few}
 use Rattle.wait_core.specs.declared.view.WaitView.{WaitView}
@@ -21,7 +21,7 @@ use Rattle.join_law.specs.declared.step.HashStep.TheVariants.{Load, AddResults}
 use Rattle.join_law.specs.declared.step.Look.TheVariants.{Plain}
 use Rattle.join_law.specs.declared.step.Word.TheVariants.{Hash}
 use Rattle.join_law.specs.Layout.{Join, heads, rows, sizes_of}
-use Rattle.join_law.specs.Machine.{At, after, step_op}
+use Rattle.join_law.specs.Machine.{At, May, Probing, after, passed_of, step_op}
 use Rattle.join_law.specs.Phases.{WithSizes, known_word, batch_bar, RUN, PROBE}
 use Rattle.join_law.specs.Routes.{batch_of, chain_at}
 use Rattle.join_law.specs.Stands.{Stands}
@@ -36,6 +36,7 @@ use Rattle.shared_tuples.proofs.Tuples.{routed, still_ends, with_is}
 use Rattle.hash_probe.specs.Looks.{agreeing_among, walk_of}
 use Rattle.hash_probe.specs.Probing.{GivesUpRow, MayProbe, ProbesRow, with_given, with_probed}
 use Rattle.hash_probe.specs.Walks.{IsKeyed, MayWalk, pairs_among, walking}
+use Rattle.hash_probe.proofs.Counting.{carried_few}
 use Rattle.hash_probe.proofs.Comparing.{agreeing_few, outer_hash}
 
 -- an outer row with a key is there
@@ -66,6 +67,13 @@ may_walk j v row hash head may key inside at =
     let one : a.0 ≡ r.1 = same_Some a.0 r.1 (sym a.1 ∙ r.3) in
     let is : head ≡ chain_at j (sizes_of r.1) r.0 = a.2 ∙ ap {A = ℕ × ℕ} (λ n. chain_at j (sizes_of n.0) n.1) (λ i. (one i, same i)) in
     record { inside = inside; probing = (may.ready.0, may.outer, with_there (j.hash row) _ r.0 r.2 (with_there (known_word v) _ r.1 r.3 (r.4, is))) }
+
+-- at the end of its walk the row's pairs may be counted
+pub may_add : (j : Join) (v w : WaitView HashView) (row count : ℕ) (passed : List ℕ) → MayProbe j (party_of v) row → w ≡ walking v row passed 0 → count ≡ length (partners j row passed) → May j (party_of w) (AddResults row count)
+may_add j v w row count passed may is many =
+    let r = routed j (party_of v) row (λ z x. At (party_of v) (batch_bar (batch_of z x)) PROBE) may.probing in
+    let probing : Probing j (party_of (walking v row passed 0)) row (λ z x. Unit {0}) = (may.ready.0, may.outer, with_there (j.hash row) _ r.0 r.2 (with_there (known_word (party_of v)) _ r.1 r.3 (r.4, tt))) in
+    subst (λ (y : WaitView HashView). May j (party_of y) (AddResults row count)) (sym is) (omega arith, (probing, (refl, refl, many)))
 
 -- how many pairs were added
 pub how_many : (j : Join) (row : ℕ) (passed : List ℕ) (before after : List Pair) → after ≡ before ++ pairs_among j row passed → length after ≡ length before + length (partners j row passed)
@@ -104,6 +112,11 @@ module _ (p : HashParty) (words : List ℕ) (views : List View) (phases : List �
       let q : Walk = record { row = row; passed = passed; stood = 0 } in
       let facts = results_found j words views phases h id (party_of w) s q n (ap (λ (y : WaitView HashView). y.client.walk) is) refl found in
       let few = facts.1 in omega arith
+
+  -- the count is at most that of all pairs
+  pub count_few : (v : WaitView HashView) (row count n : ℕ) (passed : List ℕ) → MayProbe j (party_of v) row → w ≡ walking v row passed 0 → count ≡ length (partners j row passed) → get_or words (op_at (step_op j (AddResults row count))) 0 ≡ n → n + count ≤ length (nested_loop p.outer.now p.inner.now)
+  count_few v row count n passed may is many found = carried_few p words views phases h id (party_of w) s row count n (may_add j v w row count passed may is many)
+      (many ∙ ap (λ (o : Option Walk). length (partners j row (passed_of o))) (sym (ap (λ (y : WaitView HashView). y.client.walk) is))) found
 
 -- a seat that probed a row or gave it up may still find an end by an add
 probed_ends : (c : HashView) (r : Probed) → ((side : Side) → MayStillEnd c side) → (side : Side) → MayStillEnd (with_probed c r) side

@@ -1,7 +1,8 @@
 //! Probing the hash table of a parallel hash join.
 #![tactic(auto)]
 
-ghost use Rattle.std.specs.Prelude.{◌≡◌, ◌≤◌, ◌+◌, [], IfOk, OnErr};
+ghost use Rattle.std.specs.Prelude.{◌≡◌, ◌≤◌, ◌+◌, [], IfOk, OnErr, length};
+ghost use Rattle.row_model.specs.Table.{nested_loop};
 ghost use Rattle.wait_core.specs.Seating.{party_of};
 ghost use Rattle.join_party.specs.Joins.{join};
 ghost use Rattle.hash_probe.specs.Looks.{walk_of};
@@ -18,7 +19,7 @@ use std::sync::Wait;
 use std::sync::ledger::Ledger;
 
 /// Probes an outer row in hand (`ExecScanHashBucket`): its pairs go behind those that `pairs` has, and
-/// their number is added to the result count. Answers the count then. Where memory runs out the row is
+/// their number is added to the result count. Answers the count then, at most the number of all pairs. Where memory runs out the row is
 /// given up, and none of its pairs is kept. At most one look for each inner row whose hash agrees with
 /// the row's modulo the opening buckets.
 pub fn probe_row<'r, R: Wait, L: Ledger>(
@@ -35,6 +36,7 @@ pub fn probe_row<'r, R: Wait, L: Ledger>(
     ensures table { (seats.new.wait.table_id ≡ seats.old.wait.table_id) × (seats.new.wait.id ≡ seats.old.wait.id) }
     ensures others { (seats.new.lock ≡ seats.old.lock) × (seats.new.signal ≡ seats.old.signal) }
     ensures probed { IfOk result (ProbesRow (join tables.now.waits.party) seats.old.wait.view seats.new.wait.view row pairs.old.items pairs.new.items) }
+    ensures few { IfOk result (λ count. count ≤ length (nested_loop tables.now.waits.party.outer.now tables.now.waits.party.inner.now)) }
     ensures given { OnErr result (GivesUpRow seats.old.wait.view seats.new.wait.view row pairs.old.items pairs.new.items) }
     ensures looks { steps.new ≤ steps.old + walk_of tables.now.waits.party.outer.now tables.now.waits.party.inner.now tables.now.waits.party.buckets row }
 {

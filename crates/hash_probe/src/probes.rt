@@ -1,6 +1,7 @@
 //! How an outer row is probed: its chain is walked, and the number of its pairs is added to the result
 //! count.
 ghost use Rattle.std.specs.Prelude.{◌≡◌, ◌≤◌, ◌+◌, ◌++◌, [], IfOk, OnErr, length};
+ghost use Rattle.row_model.specs.Table.{nested_loop};
 ghost use Rattle.wait_core.specs.Seating.{client_moved, party_of};
 ghost use Rattle.join_party.specs.Joins.{join};
 ghost use Rattle.hash_probe.specs.Looks.{walk_of};
@@ -29,6 +30,7 @@ pub(crate) fn probe<'r, R: Wait, L: Ledger>(
     requires row { MayProbe (join waits.now.party) (party_of seat.old.view) row }
     ensures table { (seat.new.table_id ≡ seat.old.table_id) × (seat.new.id ≡ seat.old.id) }
     ensures probed { IfOk result (ProbesRow (join waits.now.party) seat.old.view seat.new.view row pairs.old.items pairs.new.items) }
+    ensures few { IfOk result (λ count. count ≤ length (nested_loop waits.now.party.outer.now waits.now.party.inner.now)) }
     ensures given { OnErr result (GivesUpRow seat.old.view seat.new.view row pairs.old.items pairs.new.items) }
     ensures looks { steps.new ≤ steps.old + walk_of waits.now.party.outer.now waits.now.party.inner.now waits.now.party.buckets row }
 {

@@ -10,7 +10,7 @@ use Rattle.join_party.specs.Joins.{join}
 use Rattle.shared_tuples.specs.Tuples.{KnowsSizes}
 use Rattle.hash_probe.specs.Looks.{agreeing_among, walk_of}
 use Rattle.hash_probe.specs.Walks.{MayWalk, walking}
-use Rattle.hash_probe.proofs.Probing.{key_few, row_hash, knows_sizes, may_walk, how_many, looks_few, probed_row, results_fit}
+use Rattle.hash_probe.proofs.Probing.{key_few, row_hash, knows_sizes, may_walk, how_many, looks_few, probed_row, results_fit, count_few}
 use Rattle.hash_probe.proofs.probes.probe.Goals as goal
 
 pub overflow_cast-hash : goal.overflow_cast-hash
@@ -63,6 +63,18 @@ returns-in-Ok-clause-probed g c =
     let stood = c.client-results.ensures.stood in
     let at = end.view ∙ ap (λ (y : WaitView HashView). walking y row end.passed 0) (c.chain_of-head.ensures.view ∙ c.client-hash.ensures.view) in
     probed_row p _ _ _ stood.rule.client _ c.walk.new.seat.view stood.step c.args.seat.now.view c.client-results.new.seat.view row count c.client-results.result.old end.passed c.args.pairs.now.items c.walk.new.pairs.items at end.pairs many stood.read c.client-results.ensures.view
+
+pub returns-in-Ok-clause-few : goal.returns-in-Ok-clause-few
+returns-in-Ok-clause-few g c =
+    let p = c.args.waits.now.party in
+    let row = c.args.row in
+    let end = c.in-Ok.ensures.walked in
+    let count : ℕ = c.len.result - c.len-before.result in
+    let more = how_many (join p) row end.passed c.args.pairs.now.items c.walk.new.pairs.items end.pairs in
+    let many : count ≡ length (partners (join p) row end.passed) = omega arith in
+    let stood = c.client-results.ensures.stood in
+    let at = end.view ∙ ap (λ (y : WaitView HashView). walking y row end.passed 0) (c.chain_of-head.ensures.view ∙ c.client-hash.ensures.view) in
+    count_few p _ _ _ stood.rule.client _ c.walk.new.seat.view stood.step c.args.seat.now.view row count c.client-results.result.old end.passed c.requires.row at many stood.read
 
 pub returns-in-Ok-clause-looks : goal.returns-in-Ok-clause-looks
 returns-in-Ok-clause-looks g c =
