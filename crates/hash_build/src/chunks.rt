@@ -86,7 +86,8 @@ fn add_batch_sizes<'r>(
     }
 }
 
-// Tells of a chunk of inner rows: how many each batch has, and by a report how many they are.
+// Tells of a chunk whose rows are all placed: of inner rows, how many each batch has, and by a report how
+// many they are.
 fn tell<'r, R: Wait>(
     rt: &R,
     tables: &JoinTables<'r>,
@@ -98,6 +99,7 @@ fn tell<'r, R: Wait>(
 )
     requires table { IsAt tables.now seats.old }
     requires idle { (seats.old.wait.view.place ≡ []) × IsFree seats.old.lock.view }
+    requires placed { seats.old.wait.view.client.hand ≡ [] }
     requires sizes { (sizes.half ≤ 1) × (sizes.batches ≤ 64) }
     requires count { (1 ≤ count) × (count ≤ 64) }
     ensures table { IsAt tables.now seats.new × (seats.new.wait.id ≡ seats.old.wait.id) }
