@@ -12,14 +12,13 @@ use join_party::{JoinSeats, JoinTables, open_tables};
 use proc_table::{OpenGate, Steps};
 use row_model::{Plan, RecordFault, Rows, RowsBuilder};
 use std::alloc::Global;
-use std::env;
 use std::marker::{Brand, Sync};
-use std::mem;
 use std::process::ExitCode;
 use std::rt::Env;
 use std::sync::Wait;
 use std::sync::ledger::{Blank, Ledger};
 use std::thread::{Threads, join};
+use std::{env, mem};
 
 const ROWS: u32 = 262_144;
 
@@ -72,12 +71,7 @@ fn take_part<'r, R: Wait, L: Ledger>(
 }
 
 // The same with a counter of its own.
-fn one_takes_part<'r, R: Wait>(
-    rt: &R,
-    tables: &JoinTables<'r>,
-    seats: JoinSeats<'r>,
-    worker: u32,
-)
+fn one_takes_part<'r, R: Wait>(rt: &R, tables: &JoinTables<'r>, seats: JoinSeats<'r>, worker: u32)
     requires table { IsAt tables.now seats }
     requires begins { Begins seats }
 {

@@ -9,6 +9,8 @@ ghost use Rattle.hash_probe.specs.Looks.{walk_of};
 ghost use Rattle.hash_probe.specs.Probing.{GivesUpRow, MayProbe, ProbesRow};
 
 mod probes;
+#[cfg(test)]
+mod tests;
 mod walks;
 
 use join_party::{JoinSeats, JoinTables};
