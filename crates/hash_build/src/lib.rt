@@ -4,6 +4,7 @@
 #![tactic(auto)]
 
 ghost use Rattle.std.specs.Prelude.{◌≡◌};
+ghost use Rattle.join_party.specs.Joins.{join};
 ghost use Rattle.join_party.specs.Workers.{IsAt};
 ghost use Rattle.hash_build.specs.Builds.{Begins, Builds};
 
@@ -22,11 +23,15 @@ use std::sync::Wait;
 use std::sync::ledger::Ledger;
 
 /// How a build ended: the join was found at its end, or the table is built and has so many buckets
-/// and batches.
+/// and batches. Of those who waited for its last phase to pass one is elected.
 #[derive(Debug, Clone, Copy, PartialEq, Eq)]
 pub enum Built {
     Late,
-    Ready { buckets: u32, batches: u32 },
+    Ready {
+        buckets: u32,
+        batches: u32,
+        elected: bool,
+    },
 }
 
 /// Takes part in the build from the phase on in which it finds it, until the table is built: then the
@@ -43,7 +48,7 @@ pub fn build<'r, G: Gate, R: Wait, L: Ledger>(
     requires table { IsAt tables.now seats.old }
     requires begins { Begins seats.old }
     ensures table { IsAt tables.now seats.new × (seats.new.wait.id ≡ seats.old.wait.id) }
-    ensures built { Builds result seats.old seats.new steps.old steps.new }
+    ensures built { Builds (join tables.now.waits.party) result seats.old seats.new steps.old steps.new }
 {
     gate.at(worker, Point::Started);
     let found = attach(rt, &tables.waits, &mut seats.wait, the_build());
@@ -53,12 +58,14 @@ pub fn build<'r, G: Gate, R: Wait, L: Ledger>(
         leave_late(rt, tables, seats);
         return Built::Late;
     }
+    let mut elected = false;
     for phase in found..RUN {
         work(rt, tables, seats, sizes, phase, worker, gate, steps);
-        go_on(rt, tables, seats, phase);
+        elected = go_on(rt, tables, seats, phase);
     }
     Built::Ready {
         buckets: sizes.buckets,
         batches: sizes.batches,
+        elected,
     }
 }

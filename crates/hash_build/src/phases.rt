@@ -1,5 +1,6 @@
 //! What a worker does in each phase of the build, and how it goes on to the next.
-ghost use Rattle.std.specs.Prelude.{◌≡◌, ◌≤◌, ◌<◌, ◌+◌, ℕ, [], ◌∷◌, None};
+ghost use Rattle.std.specs.Prelude.{◌≡◌, ◌≤◌, ◌<◌, ◌+◌, ℕ, true, [], ◌∷◌, None};
+ghost use Rattle.wait_core.specs.Parties.{Elected};
 ghost use Rattle.wait_core.specs.Seating.{client_moved, party_of};
 ghost use Rattle.join_law.specs.Machine.{At};
 ghost use Rattle.join_law.specs.Phases.{build};
@@ -101,13 +102,13 @@ pub(crate) fn work<'r, G: Gate, R: Wait, L: Ledger>(
     }
 }
 
-// Arrives at the end of a phase before RUN, and waits until all have.
+// Arrives at the end of a phase before RUN, and waits until all have. Whether it is elected.
 pub(crate) fn go_on<'r, R: Wait>(
     rt: &R,
     tables: &JoinTables<'r>,
     seats: &mut JoinSeats<'r>,
     phase: u64,
-)
+) -> bool
     requires table { seats.old.wait.table_id ≡ tables.now.waits.table_id }
     requires idle { (seats.old.wait.view.place ≡ []) × (seats.old.wait.view.target ≡ None) }
     requires phase { (phase < 4) × (seats.old.wait.view.attached ≡ (build, phase) ∷ []) }
@@ -116,10 +117,12 @@ pub(crate) fn go_on<'r, R: Wait>(
     ensures others { (seats.new.lock ≡ seats.old.lock) × (seats.new.signal ≡ seats.old.signal) }
     ensures idle { (seats.new.wait.view.place ≡ []) × (seats.new.wait.view.target ≡ None) }
     ensures phase { seats.new.wait.view.attached ≡ (build, phase + 1) ∷ [] }
+    ensures elected { result ≡ true → Elected seats.new.wait.view.elections build (phase + 1) }
     ensures client { seats.new.wait.view.client ≡ seats.old.wait.view.client }
     ensures numbers { SameWaitNumbers seats.old.wait.view seats.new.wait.view }
 {
-    if arrive_and_wait(rt, &tables.waits, &mut seats.wait, the_build()).is_err() {
+    let Ok(elected) = arrive_and_wait(rt, &tables.waits, &mut seats.wait, the_build()) else {
         unreachable!()
-    }
+    };
+    elected
 }

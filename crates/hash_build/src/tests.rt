@@ -128,7 +128,7 @@ fn each_row_is_placed<'r, R: Abort>(
     requires idle { seats.wait.view.place ≡ [] }
 {
     let found = find_places(rt, alloc, &tables.waits, seats);
-    let Built::Ready { buckets, batches } = built else {
+    let Built::Ready { buckets, batches, .. } = built else {
         return false;
     };
     let expected = expect_places::<R, Brand>(
@@ -185,7 +185,8 @@ fn one_worker_places_each_row_once(rt: HostRuntime) -> Result<(), Fail> {
             mem,
         };
         let (built, placed) = build_alone(&rt, rt.alloc(), &inner, &outer, plan);
-        assert!(rt; built == Built::Ready { buckets, batches });
+        let elected = true;
+        assert!(rt; built == Built::Ready { buckets, batches, elected });
         assert!(rt; placed);
     }
     Ok(())
