@@ -1,0 +1,5 @@
+use Rattle.hash_probe.proofs.Signals.{tells_now}
+use Rattle.hash_probe.proofs.marks.tell_over.Goals as goal
+
+pub returns-clause-tells : goal.returns-clause-tells
+returns-clause-tells c = tells_now c.args.tables.now.signals.procs c.args.count c.args.seats.now.signal.view c.emit-generation.new.seat.view c.emit-generation.result c.emit-generation.ensures.emitted
