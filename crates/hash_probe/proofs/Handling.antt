@@ -147,16 +147,18 @@ module _ (t : JoinTables) where
       let first = does_none p v.wait.view.client u.wait.view.client before x none in
       let more = swaps_on u.signal.view w.signal.view h.says.on in
       let one = h.one in
-      let long = length-append h.rows [] in
-      (h.stays.attached ∙ stays.attached, record {
-        rows = h.rows ++ [];
-        given = h.given ++ [];
-        does = does_on p [] h.rows [] h.given v.wait.view.client u.wait.view.client w.wait.view.client before before after x x y first h.does;
-        says = says_on p t.signals.procs [] h.rows [] h.given m k n v.signal.view u.signal.view w.signal.view says h.says;
-        looked = omega arith;
-        numbers = numbers_on v.wait.view u.wait.view w.wait.view stays.numbers h.stays.numbers;
-        lock = h.lock ∙ lock;
-      })
+      let long = length-append h.rows [] in (
+        h.stays.attached ∙ stays.attached,
+        record {
+          rows = h.rows ++ [];
+          given = h.given ++ [];
+          does = does_on p [] h.rows [] h.given v.wait.view.client u.wait.view.client w.wait.view.client before before after x x y first h.does;
+          says = says_on p t.signals.procs [] h.rows [] h.given m k n v.signal.view u.signal.view w.signal.view says h.says;
+          looked = omega arith;
+          numbers = numbers_on v.wait.view u.wait.view w.wait.view stays.numbers h.stays.numbers;
+          lock = h.lock ∙ lock;
+        },
+      )
 
 -- a worker at whose row memory ran out has a mark
 pub unmarked_not : (m : Probed) → IsUnmarked (record m { out_of_memory = true }) → ⊥

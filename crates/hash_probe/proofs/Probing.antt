@@ -108,13 +108,13 @@ module _ (p : HashParty) (words : List ℕ) (views : List View) (phases : List �
   probed_few row mine =
       let named : List ℕ = row ∷ probed_rows w.client.probed in
       let few = rows_few named (rows j) (λ x.
-          let o = h.parts.place.once x in
-          let t = total_at (held x) views id (party_of w) s.at in
-          let here : one x row ≤ times x w.client.hand = ⊎_elim
-              (λ (e : row ≡ x). let a = one_same x row e in let b : 1 ≤ times x w.client.hand = subst (λ (y : ℕ). 1 ≤ times y w.client.hand) e mine in omega arith)
-              (λ (ne : row ≢ x). let a = one_other x row ne in omega arith) (cases_eq row x) in
-          let most : below x (rows j) ≤ 1 = omega arith in
-          (omega arith, λ some. omega arith)) in
+      let o = h.parts.place.once x in
+      let t = total_at (held x) views id (party_of w) s.at in
+      let here : one x row ≤ times x w.client.hand = ⊎_elim
+      (λ (e : row ≡ x). let a = one_same x row e in let b : 1 ≤ times x w.client.hand = subst (λ (y : ℕ). 1 ≤ times y w.client.hand) e mine in omega arith)
+      (λ (ne : row ≢ x). let a = one_other x row ne in omega arith) (cases_eq row x) in
+      let most : below x (rows j) ≤ 1 = omega arith in
+      (omega arith, λ some. omega arith)) in
       let long = rows_long w.client.probed in
       let room = h.parts.meet.few in
       omega arith

@@ -230,7 +230,9 @@ pub(crate) fn probe_batches<'r, G: Gate, R: Wait, L: Ledger>(
     ensures done { (b : ℕ) → first ≤ b → b < end → 1 ≤ times_done b seats.new.wait.view.client }
 {
     for batch in first..end {
-        probe_batch(rt, tables, seats, table, batch, worker, pairs, marks, gate, steps);
+        probe_batch(
+            rt, tables, seats, table, batch, worker, pairs, marks, gate, steps,
+        );
     }
 }
 
@@ -268,5 +270,11 @@ pub(crate) fn leave<'r, R: Wait>(rt: &R, tables: &JoinTables<'r>, seats: &mut Jo
     if arrive_and_detach(rt, &tables.waits, &mut seats.wait, the_build()).is_err() {
         unreachable!()
     }
-    leave_slot(rt, &tables.signals, &mut seats.signal, &tables.waits, &mut seats.wait);
+    leave_slot(
+        rt,
+        &tables.signals,
+        &mut seats.signal,
+        &tables.waits,
+        &mut seats.wait,
+    );
 }

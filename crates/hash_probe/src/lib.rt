@@ -70,7 +70,12 @@ pub fn probe<'r, G: Gate, R: Wait, L: Ledger>(
     ensures quiet { Quiet (join tables.now.waits.party) (party_of seats.new.wait.view) build RUN }
     ensures probed { Probes tables.now seats.old seats.new result pairs.old.items pairs.new.items steps.old steps.new }
 {
-    let Built::Ready { buckets, batches, elected } = built else {
+    let Built::Ready {
+        buckets,
+        batches,
+        elected,
+    } = built
+    else {
         unreachable!()
     };
     let table = HashTable { buckets, batches };
@@ -81,11 +86,17 @@ pub fn probe<'r, G: Gate, R: Wait, L: Ledger>(
         out_of_memory: false,
     };
     let first = u32::from(elected);
-    probe_batches(rt, tables, seats, table, 0, first, worker, pairs, &mut marks, gate, steps);
+    probe_batches(
+        rt, tables, seats, table, 0, first, worker, pairs, &mut marks, gate, steps,
+    );
     let start = draw_start(tables, seats, batches);
     let from = u32::max(first, start);
-    probe_batches(rt, tables, seats, table, from, batches, worker, pairs, &mut marks, gate, steps);
-    probe_batches(rt, tables, seats, table, first, start, worker, pairs, &mut marks, gate, steps);
+    probe_batches(
+        rt, tables, seats, table, from, batches, worker, pairs, &mut marks, gate, steps,
+    );
+    probe_batches(
+        rt, tables, seats, table, first, start, worker, pairs, &mut marks, gate, steps,
+    );
     leave(rt, tables, seats);
     gate.at(worker, Point::Left);
     marks

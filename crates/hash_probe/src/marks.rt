@@ -83,7 +83,13 @@ pub(crate) fn heed<'r, R: Wait>(
     ensures looked { suc (swaps seats.old.signal.view.steps) ≤ swaps seats.new.signal.view.steps }
 {
     if hear(&tables.signals, &mut seats.signal, marks) {
-        publish_notice(rt, &tables.signals, &seats.signal, &tables.waits, &mut seats.wait);
+        publish_notice(
+            rt,
+            &tables.signals,
+            &seats.signal,
+            &tables.waits,
+            &mut seats.wait,
+        );
     }
 }
 

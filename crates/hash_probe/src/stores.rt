@@ -10,9 +10,9 @@ ghost use Rattle.hash_probe.specs.Marks.{CountsRow, IsUnmarked};
 ghost use Rattle.hash_probe.specs.Probing.{MayProbe, with_given};
 ghost use Rattle.hash_probe.specs.Working.{HandlesRow, IsAwake, IsCounted, Worked};
 
+use crate::Probed;
 use crate::marks::{MOST_PAIRS, heed, tell_over};
 use crate::rows::probe_row;
-use crate::Probed;
 use join_party::{HashStep, JoinSeats, JoinTables, Look};
 use proc_table::Steps;
 use row_model::{Pair, Side};
