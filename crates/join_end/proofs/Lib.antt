@@ -6,3 +6,4 @@ pub mod PairsFound
 pub mod Looks
 pub mod Gathers
 pub mod Whole
+pub mod Workers

@@ -5,3 +5,4 @@ pub mod Works
 pub mod Workers
 pub mod AtTheEnd
 pub mod Answers
+pub mod Last

@@ -2,8 +2,10 @@
 #![tactic(auto)]
 
 mod answer;
+mod last;
 pub mod laws;
 mod order;
 
 pub use answer::{JoinFault, finish};
+pub use last::look_last;
 pub use order::put_in_order;
