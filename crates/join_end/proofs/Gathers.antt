@@ -8,7 +8,7 @@ use Rattle.wait_core.specs.Parties.{joined, phase_of}
 use Rattle.wait_core.specs.Seating.{party_of}
 use Rattle.join_law.specs.declared.view.Known.{Known}
 use Rattle.join_law.specs.declared.view.Probed.{Probed}
-use Rattle.join_law.specs.Layout.{Join, SizesOf, sizes_of}
+use Rattle.join_law.specs.Layout.{Join, sizes_of}
 use Rattle.join_law.specs.Phases.{With, build, known_at, batch_growth, bucket_growth, RUN}
 use Rattle.join_law.specs.Quiet.{Quiet}
 use Rattle.join_law.specs.Views.{View, both_known, both_views, for_good, probed_rows}

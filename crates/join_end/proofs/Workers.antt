@@ -1,5 +1,5 @@
 -- What a worker promises at its end, by what `build` and `probe` say.
-use Rattle.std.proofs.Common.{◌≡◌, ◌⊎◌, ℕ, zero, suc, ◌+◌, ◌-◌, ◌*◌, ◌≤◌, Bool, true, false, List, [], ◌∷◌, ◌++◌, length, refl, sym, ap, ◌∙◌, subst, arith, inl, inr, ⊎_elim, Some, None, Option}
+use Rattle.std.proofs.Common.{◌≡◌, ℕ, ◌+◌, ◌-◌, ◌*◌, ◌≤◌, Bool, true, false, List, [], ◌∷◌, ◌++◌, length, sym, ap, ◌∙◌, subst, arith, inl, inr, Some, None}
 use Rattle.std.proofs.lemmas.List.{append-nil, length-append}
 use Rattle.std.proofs.lemmas.Option.{none-some, same_Some}
 use Rattle.seat_roster.specs.Roster.{listed, times}
@@ -9,9 +9,7 @@ use Rattle.wait_core.specs.declared.view.WaitView.{WaitView}
 use Rattle.wait_core.specs.Seating as waits
 use Rattle.wait_core.specs.Seating.{fresh, party_of}
 use Rattle.signal_core.specs.declared.seat.SigSeat.{SigSeat}
-use Rattle.signal_core.specs.declared.view.Emission.{Emission}
 use Rattle.signal_core.specs.declared.view.SigView.{SigView}
-use Rattle.signal_core.specs.declared.view.Slot.{Slot}
 use Rattle.signal_core.specs.Machine.{IsJoined}
 use Rattle.signal_core.specs.Seating as signals
 use Rattle.proc_signal.specs.Signals.{IsJoinedSlot}
@@ -27,16 +25,16 @@ use Rattle.join_party.specs.declared.tables.JoinTables.{JoinTables}
 use Rattle.join_party.specs.Joins.{join}
 use Rattle.join_party.specs.Workers.{IsAt, IsDrawn}
 use Rattle.hash_build.specs.Builds.{Begins, FoundDone, HasBuilt}
-use Rattle.hash_build.specs.Hashing.{HashesOnly, SameWaitNumbers}
+use Rattle.hash_build.specs.Hashing.{SameWaitNumbers}
 use Rattle.hash_build.specs.declared.Built.TheVariants.{Ready}
 use Rattle.hash_probe.specs.declared.Probed.{Probed}
-use Rattle.hash_probe.specs.Marks.{Says, SaysOver, SaysStopped}
+use Rattle.hash_probe.specs.Marks.{SaysOver, SaysStopped}
 use Rattle.hash_probe.specs.Probes.{AsBuilt, Probes}
 use Rattle.hash_probe.specs.Rows.{looks_at, pairs_found}
-use Rattle.hash_probe.specs.Signals.{GoesOn, STOP}
+use Rattle.hash_probe.specs.Signals.{STOP}
 use Rattle.hash_probe.specs.Hits.{hits}
 use Rattle.join_end.specs.Pairs.{SamePairs}
-use Rattle.join_end.specs.Works.{Did, HasDone, IsOver, Work, work_of}
+use Rattle.join_end.specs.Works.{Did, HasDone, IsOver, work_of}
 use Rattle.join_end.specs.Workers.{IsNew, KeepsNumbers}
 use Rattle.join_end.proofs.Gathers.{quiet_ended}
 use Rattle.hash_probe.proofs.Stops.{stops_absorb}

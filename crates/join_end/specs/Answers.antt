@@ -1,5 +1,5 @@
 -- When a join is refused.
-use Rattle.std.specs.Prelude.{◌≡◌, ℕ, Bool, true, Option}
+use Rattle.std.specs.Prelude.{◌≡◌, Bool, true}
 use Rattle.row_model.specs.Table.{Table}
 use Rattle.join_end.specs.declared.answer.JoinFault.{JoinFault}
 use Rattle.join_end.specs.declared.answer.JoinFault.TheVariants.{TooMany, NoMemory}

@@ -17,9 +17,6 @@ pub fn look_last<'r>(tables: &JoinTables<'r>, seats: &mut JoinSeats<'r>)
     ensures same { (seats.new.wait.view ≡ seats.old.wait.view) × (seats.new.signal ≡ seats.old.signal) × (seats.new.lock ≡ seats.old.lock) }
     ensures end { (w : Work) → w.wait ≡ seats.old.wait.view → w.signal ≡ seats.old.signal.view → HasDone tables.now.waits.party w → AtTheEnd tables.now.waits.party w }
 {
-    tables.waits.client(
-        &mut seats.wait,
-        HashStep::Load(Look::Plain(Word::Results)),
-    );
+    tables.waits.client(&mut seats.wait, HashStep::Load(Look::Plain(Word::Results)));
     tables.signals.settle(&mut seats.signal);
 }

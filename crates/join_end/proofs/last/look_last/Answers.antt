@@ -1,4 +1,4 @@
-use Rattle.std.proofs.Common.{◌≡◌, ℕ, ◌≤◌, map, sym, ap, ◌∙◌, subst}
+use Rattle.std.proofs.Common.{ℕ, ◌≤◌, map, sym, ap, ◌∙◌, subst}
 use Rattle.seat_roster.specs.Roster.{times}
 use Rattle.atomic_table.proofs.Lists.{at_map}
 use Rattle.wait_core.specs.declared.view.WaitView.{WaitView}
@@ -8,13 +8,11 @@ use Rattle.wait_core.specs.Words.{client_words}
 use Rattle.wait_core.specs.Barriers.{phases_in}
 use Rattle.wait_core.proofs.SeatsKept.{others_left}
 use Rattle.signal_core.specs.declared.view.SigView.{SigView}
-use Rattle.signal_core.specs.Promises.{EmitsWhatItAbsorbed, HasEmitted}
+use Rattle.signal_core.specs.Promises.{HasEmitted}
 use Rattle.join_law.specs.declared.view.HashView.{HashView}
 use Rattle.join_law.specs.Stands.{There}
 use Rattle.join_party.specs.Guards.{stop_shows}
 use Rattle.hash_probe.specs.Signals.{STOP}
-use Rattle.join_end.specs.AtTheEnd.{AtTheEnd}
-use Rattle.join_end.specs.Ends.{OthersLeft}
 use Rattle.join_end.proofs.last.look_last.Goals as goal
 
 pub returns-clause-end : goal.returns-clause-end
