@@ -162,11 +162,11 @@ fn wait_for(count: &AtomicU64, high: u64) {
     }
 }
 
-// Lets worker 0 begin once another has come to a batch, after so many turns of giving way. Where it then
+// Lets worker 0 begin once another has come to a batch, after so many looks more. Where it then
 // finds a batch at PROBE, it is held up there until all others have left.
 #[derive(Drop)]
 struct Late {
-    turns: u32,
+    looks: u32,
     others: u64,
     come: AtomicU64,
     held: AtomicU64,
@@ -176,8 +176,8 @@ struct Late {
 impl Late {
     fn begin(&self) {
         wait_for(&self.come, 1);
-        for _ in 0..self.turns {
-            yield_now();
+        for _ in 0..self.looks {
+            self.left.load(Ordering::SeqCst);
         }
     }
 
@@ -204,9 +204,9 @@ impl Gate for Late {
     }
 }
 
-fn late_by(turns: u32, others: u64) -> Late {
+fn late_by(looks: u32, others: u64) -> Late {
     Late {
-        turns,
+        looks,
         others,
         come: AtomicU64::new(0),
         held: AtomicU64::new(0),
@@ -227,7 +227,7 @@ fn a_late_worker_changes_nothing(rt: HostRuntime) -> Result<(), Fail> {
         mem: 100,
     };
     for round in 0..30u32 {
-        let gate = late_by(1 << (round % 10), 3);
+        let gate = late_by(1 << (round % 15), 3);
         let found = join_by(&rt, rt.alloc(), &inner_rows, &outer_rows, plan, 4, &gate);
         let (probed, pairs) = gather(&rt, rt.alloc(), found);
         assert!(rt; probed == count_keyed(outer.as_slice()));
@@ -250,7 +250,7 @@ fn a_worker_may_stay_at_probe_when_the_other_has_left(rt: HostRuntime) -> Result
         mem: 1_000,
     };
     for _ in 0..20u32 {
-        let gate = late_by(100, 1);
+        let gate = late_by(50_000, 1);
         let found = join_by(&rt, rt.alloc(), &inner_rows, &outer_rows, plan, 2, &gate);
         let (probed, pairs) = gather(&rt, rt.alloc(), found);
         assert!(rt; probed == 4_000);
