@@ -6,6 +6,8 @@ ghost use Rattle.signal_core.specs.Machine.{IsJoined};
 ghost use Rattle.join_party.specs.Workers.{IsAt, IsNumbered};
 ghost use Rattle.hash_build.specs.Builds.{Begins};
 
+mod threads;
+
 use super::*;
 use hash_build::build;
 use join_party::open_tables;
