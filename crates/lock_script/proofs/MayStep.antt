@@ -73,6 +73,7 @@ module _ (z : Size) (p : ℕ) (below : p < z.procs) (v : View) (own : v.own ≡ 
   abbrev mode_of : Ask → Mode
   mode_of a = mode_held (mode_in (ask_lock a) v)
 
+  -- the first step of a call that suits
   begins : (a : Ask) → CallSuits z a v → May (first_step a (mode_of a)) []
   begins (Begin (call.Try l m)) h = ((h.0.0, tt), (refl, refl, no_mode (mode_in l v) h.1))
   begins (Begin (call.Acquire l m)) h = ((h.0.0, tt), (refl, refl, no_mode (mode_in l v) h.1))
@@ -89,9 +90,11 @@ module _ (z : Size) (p : ℕ) (below : p < z.procs) (v : View) (own : v.own ≡ 
   begins (Read l k) h = ((h.0.0, tt), (h.0.1, refl, has_mode (mode_in l v) h.1))
   begins (Write l k x) h = ((h.0.0, tt), (h.0.1, refl, alone_mode (mode_in l v) h.1))
 
+  -- who is marked next is on the list in hand
   next_below : (marked us ws : List Waiter) (u : Waiter) → marked ++ u ∷ us ≡ ws → AllBelow z.procs ws → u.proc < z.procs
   next_below marked us ws u is all = (behind_below z.procs marked (u ∷ us) (subst (AllBelow z.procs) (sym is) all)).0
 
+  -- a list is taken for what follows
   takes : (l : ℕ) (q : Place) → FollowsTaking v.holds l v.surplus q → l < z.locks → May (kind.Lock l None) (TakingList l ∷ q)
   takes l (Queueing j w ∷ q) fits inside = ((inside, tt), refl)
   takes l (Dequeueing j w ∷ q) fits inside = ((inside, tt), refl)
@@ -100,6 +103,7 @@ module _ (z : Size) (p : ℕ) (below : p < z.procs) (v : View) (own : v.own ≡ 
   takes l (Storing j x releases ∷ q) fits inside = ((inside, tt), refl)
   takes l q fits inside = absurd fits
 
+  -- the step at any place
   pub permits : (a : Ask) (q : Place) → PlaceFits v.holds v.surplus q → AllStand anything z v.holds q → AskSuits z (Some a) v q → May (step_at p a (mode_of a) q) q
   permits a [] fits h suits = begins a suits
   permits a (Attempting l m ∷ []) fits h suits = absurd fits
@@ -143,7 +147,7 @@ module _ (z : Size) (p : ℕ) (below : p < z.procs) (v : View) (own : v.own ≡ 
       ((h.0.0, tt), (refl, fits.0 ∙ ap Some (sym same), λ _ _ _. tt))
   permits a q fits h suits = absurd fits
 
--- and the next place lets go of the call's lock, too
+-- THE NEXT PLACE lets go of the call's lock, too: what stands behind a frame never lets go of one
 module _ (i : ℕ) where
   go_cond : (b : Bool) (q r : Place) → LetsGoOf i q → LetsGoOf i r → LetsGoOf i (cond b q r)
   go_cond true q r h k = h
@@ -159,6 +163,7 @@ module _ (i : ℕ) where
   back : (s : ℕ) (q : Place) → q ≡ [] → LetsGoOf i (resumed s (GivingBack ∷ q))
   back s q e = go_cond (eqb s 0) q (GivingBack ∷ q) (nothing q e) tt
 
+  -- behind an attempt that was granted, and one that was refused
   granted : (l s r : ℕ) (m : Mode) (q : Place) → FollowsAttempt l m s q → LetsGoOf i (on_grant r q)
   granted l s r m [] f = tt
   granted l s r m (Unqueued k n w slept ∷ q) f = back r q f.3
@@ -171,6 +176,7 @@ module _ (i : ℕ) where
   refused l s m (Queued k n w ∷ q) f = tt
   refused l s m q f = absurd f
 
+  -- behind queueing, and behind leaving the list
   queued : (l : ℕ) (w : Want) (q : Place) → FollowsQueueing l w q → LetsGoOf i q
   queued l w (Attempting k m ∷ q) f = tt
   queued l w (Allowing k ∷ q) f = tt
@@ -181,10 +187,12 @@ module _ (i : ℕ) where
   left s w (VarLeaving old conflicted ∷ q) f = back s q f.1
   left s w q f = absurd f
 
+  -- behind those who are to be told
   told : (us : List Waiter) (q : Place) → q ≡ [] → LetsGoOf i (telling us q)
   told [] q e = nothing q e
   told (u ∷ us) q e = tt
 
+  -- behind a look with an outcome, and one without
   outcome : (conflicted : Bool) (l old s : ℕ) (q : Place) → FollowsLook l old q → LetsGoOf i (on_outcome conflicted s q)
   outcome conflicted l old s (VarUnqueued k older ∷ q) f = back s q f.2
   outcome conflicted l old s (VarQueued k older ∷ q) f = tt
@@ -196,6 +204,7 @@ module _ (i : ℕ) where
   conflict l old q f = absurd f
 
   module _ (v : View) where
+    -- the list is in hand
     handed : (l : ℕ) (found : List Waiter) (q : Place) → FollowsTaking v.holds l v.surplus q → StoresAt i q → LetsGoOf i (in_hand found q)
     handed l found (Queueing j w ∷ q) f h = tt
     handed l found (Dequeueing j w ∷ q) f h = tt
@@ -204,6 +213,7 @@ module _ (i : ℕ) where
     handed l found (Storing j x releases ∷ q) f h = h
     handed l found q f h = absurd f
 
+    -- behind the semaphore, and behind a sleep
     downed : (s : ℕ) (q : Place) → FollowsDown v.holds s q → LetsGoOf i q
     downed s [] f = tt
     downed s (Sleeping l w answered ∷ q) f = tt
@@ -221,6 +231,7 @@ module _ (p n : ℕ) (home : List Waiter) (v : View) (mode : Mode) where
   abbrev goes : LwStep → Place → Place
   goes k q = (next k record v { place = q } n home).place
 
+  -- the place after the first step of a call
   begun : (a : Ask) → LetsGoOf (ask_lock a) (goes (first_step a mode) [])
   begun (Begin (call.Try l m)) = tt
   begun (Begin (call.Acquire l m)) = tt
@@ -234,6 +245,7 @@ module _ (p n : ℕ) (home : List Waiter) (v : View) (mode : Mode) where
   begun (Read l k) = tt
   begun (Write l k x) = tt
 
+  -- and after a step at any place
   pub lets_go : (a : Ask) (q : Place) → PlaceFits v.holds v.surplus q → LetsGoOf (ask_lock a) q → LetsGoOf (ask_lock a) (goes (step_at p a mode q) q)
   lets_go a [] fits h = begun a
   lets_go a (Attempting l m ∷ q) fits h = tt
@@ -275,7 +287,7 @@ module _ (p n : ℕ) (home : List Waiter) (v : View) (mode : Mode) where
   lets_go a (Releasing l ∷ q) fits h = go_cond (ask_lock a) (calls_for_wake (n - grant_of mode)) (TakingList l ∷ Waking l true ∷ q) q tt (nothing (ask_lock a) q fits.2)
   lets_go a q fits h = absurd fits
 
--- so a call that a step ends leaves its backend in none, and one that goes on suits its place
+-- So a call that a step ends leaves its backend in none, and one that goes on suits its place
 pub still_suits : (z : Size) (a : Ask) (v : View) (q : Place) → LetsGoOf (ask_lock a) q → AskSuits z (still q (Some a)) v q
 still_suits z a v [] h = tt
 still_suits z a v (f ∷ q) h = h
@@ -284,7 +296,7 @@ pub goes_of : (z : Size) (a : Ask) (v : View) (q : Place) → AskSuits z (Some a
 goes_of z a v [] h = tt
 goes_of z a v (f ∷ q) h = h
 
--- and who is in no call may begin one
+-- who is in no call may begin one
 pub asked_suits : (z : Size) (a : Ask) (v : View) (q : Place) → AskSuits z None v q → CallSuits z a v → AskSuits z (Some a) v q
 asked_suits z a v [] h suits = suits
 asked_suits z a v (f ∷ q) h suits = absurd h
