@@ -5,3 +5,4 @@ pub mod SlotFacts
 pub mod Crowds
 pub mod NamesKept
 pub mod MayStep
+pub mod PassedStates

@@ -31,7 +31,7 @@ abbrev pub AskSuits : Size → Option Call → Place → Option ℕ → List (�
 AskSuits z (Some a) [] t attached = CallNames z a × (has_step a t ≡ true) × (may_begin a attached ≡ true)
 AskSuits z a p t attached = ⊤
 
-module _ (z : Size) (p : ℕ) (wide : z.bars ≤ z.cvs) where
+module _ (z : Size) (p : ℕ) where
   -- THE FIRST STEP of a call, also of one inside another
   sleep_permits : (c t : ℕ) (place : Place) → c < z.cvs → t < z.cvs → MayBegin (call.Sleep c) place → (b : Bool) → eqb t c ≡ b → Permits z (taking_first p (call.Sleep c) (cond b None (Some (Cv t)))) (Some p) (Some t) place
   sleep_permits c t place below inside begin true e = ((refl, ap Some (eqb-true t c e)), begin)

@@ -1,16 +1,20 @@
 -- The slots of a script's state go on as those of the machine.
-use Rattle.std.proofs.Common.{◌≡◌, ◌∙◌, ℕ, zero, suc, ◌+◌, ◌<◌, ◌≤◌, eqb, Bool, true, false, cond, List, [], ◌∷◌, drop, length, set, get_or, Option, None, Some, refl, sym, ap, subst, arith, eq-eqb}
+use Rattle.std.proofs.Common.{◌≡◌, ◌∙◌, ℕ, zero, suc, ◌+◌, ◌<◌, ◌≤◌, eqb, Bool, true, false, cond, List, [], ◌∷◌, ◌++◌, drop, length, set, get_or, Option, None, Some, refl, sym, ap, subst, arith, eq-eqb, eqb-true}
 use mathlib.Core.Option as maybe
 use Rattle.std.proofs.Math.Seq.{get_or-drop}
 use Rattle.std.proofs.lemmas.List.{drop-set-add, drop-set-lt, length-drop}
 use Rattle.atomic_table.specs.Table.{homes_after, keeps, takes}
+use Rattle.wait_core.specs.declared.step.Call.{Call}
 use Rattle.wait_core.specs.declared.step.Call.TheVariants as call
+use Rattle.wait_core.specs.declared.step.Spot.{Spot}
 use Rattle.wait_core.specs.declared.step.WaitStep.{WaitStep}
 use Rattle.wait_core.specs.declared.step.WaitStep.TheVariants.{Sload, Sset, Reset, Mstore, Mload, Byte, Look, Drain, Shload, Shstore, Take, Spin, Free}
+use Rattle.wait_core.specs.declared.view.Frame.TheVariants.{Taking}
 use Rattle.wait_core.specs.declared.view.Kept.{Kept}
 use Rattle.wait_core.specs.declared.view.Size.{Size}
+use Rattle.wait_core.specs.declared.view.WaitView.{WaitView}
 use Rattle.wait_core.specs.Words.{client_base, slot_of, slots_in, spin_at}
-use Rattle.wait_core.specs.Machine.{Permits, Place, act_of, as_kept, becomes, carried, home_in, slot_number, step_spot, word_of}
+use Rattle.wait_core.specs.Machine.{Permits, Place, Stand, act_of, as_kept, becomes, carried, entered, home_in, list_of, made_with, next_with, number_of, place_then, slot_number, stand_of, step_spot, taken, word_of}
 use Rattle.script_play.proofs.ListFacts.{set-same}
 use Rattle.wait_script.specs.WaitScripts.{home_after, home_at, nothing, slots_of, unless_taken}
 
@@ -59,10 +63,44 @@ module _ (z : Size) (words : List ℕ) (homes : List Kept) (long : length words 
   slots ws hs = slots_of (drop (spin_at z 0) ws) hs
 
   -- what is at home in the slot whose word is clear
-  pub home-same : (x : ℕ) → get_or words (spin_at z x) 0 ≡ 0 → home_in (slots words homes) x ≡ home_at homes x
+  home-same : (x : ℕ) → get_or words (spin_at z x) 0 ≡ 0 → home_in (slots words homes) x ≡ home_at homes x
   home-same x clear =
       let at : spin_at z 0 + x ≡ spin_at z x = omega arith in
       slots-home (drop (spin_at z 0) words) homes x (get_or-drop (spin_at z 0) words x 0 ∙ ap (λ (i : ℕ). get_or words i 0) at ∙ clear)
+
+  -- so a view goes on as with what the script has there: only a take that finds its word clear reads it
+  abbrev In : WaitStep → Kept
+  In k = home_in (slots words homes) (slot_number k)
+
+  abbrev At : WaitStep → Kept
+  At k = home_at homes (slot_number k)
+
+  taken-away : (a b : Kept) (p : Place) → taken false a p ≡ taken false b p
+  taken-away a b (Taking j ∷ p) = refl
+  taken-away a b p = refl
+
+  taken-same : (x : Spot) (begins : Option Call) (n : ℕ) (p : Place) → n ≡ get_or words (spin_at z (slot_of x)) 0 → taken (eqb n 0) (In (Take x begins)) p ≡ taken (eqb n 0) (At (Take x begins)) p
+  taken-same x begins n p is = by_word (eqb n 0) refl
+    where
+      by_word : (c : Bool) → eqb n 0 ≡ c → taken c (In (Take x begins)) p ≡ taken c (At (Take x begins)) p
+      by_word true e = ap (λ (k : Kept). taken true k p) (home-same (slot_of x) (sym is ∙ eqb-true n 0 e))
+      by_word false e = taken-away (In (Take x begins)) (At (Take x begins)) p
+
+  place-same : (k : WaitStep) (own n : ℕ) (s : Stand) → n ≡ get_or words (word_of z own k) 0 → place_then z k n (In k) s ≡ place_then z k n (At k) s
+  place-same (Take x (Some c)) own n s is = taken-same x (Some c) n (entered s.target c s.place) is
+  place-same (Take x None) own n s is = taken-same x None n s.place is
+  place-same k own n s is = refl
+
+  list-same : (k : WaitStep) (own n o : ℕ) (p : Place) → n ≡ get_or words (word_of z own k) 0 → list_of k n (In k) o p ≡ list_of k n (At k) o p
+  list-same (Take x begins) own n o p is = by_word (eqb n 0) refl
+    where
+      by_word : (c : Bool) → eqb n 0 ≡ c → cond c (In (Take x begins)).list.items [] ≡ cond c (At (Take x begins)).list.items []
+      by_word true e = ap (λ (k : Kept). k.list.items) (home-same (slot_of x) (sym is ∙ eqb-true n 0 e))
+      by_word false e = refl
+  list-same k own n o p is = refl
+
+  pub view-same : {C : Type 0} (k : WaitStep) (own n : ℕ) (v : WaitView C) → n ≡ get_or words (word_of z own k) 0 → next_with z k v n (In k) ≡ next_with z k v n (At k)
+  view-same k own n v is = λ i. record (next_with z k v n (In k)) { place = place-same k own n (stand_of v) is i; steps = v.steps ++ made_with k n (list-same k own n (number_of v.own) v.place is i) ∷ [] }
 
   -- a spin word and its slot are written
   both-set : (x n : ℕ) (k : Kept) → slots (set words (spin_at z x) n) (set homes x k) ≡ set (slots words homes) x (unless_taken n k)
