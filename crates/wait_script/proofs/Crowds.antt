@@ -8,7 +8,7 @@ use Rattle.std.specs.List.{range_with_len}
 use Rattle.std.proofs.lemmas.Bool.{ne_eqb}
 use Rattle.std.proofs.Math.Seq.{get_or-drop}
 use Rattle.std.proofs.lemmas.List.{get_or-replicate, length-replicate, length-set, set-set}
-use Rattle.std.proofs.lemmas.List.FromFn.{fill_by_all, get_or-map-range_with_len, length-map-range_with_len, map-range_with_len_more}
+use Rattle.std.proofs.lemmas.List.FromFn.{fill_by_all, length-map-range_with_len, map-range_with_len_more}
 use Rattle.seat_roster.proofs.Stretches.{map_twice}
 use Rattle.wait_core.specs.declared.view.Kept.{Kept}
 use Rattle.wait_core.specs.declared.view.Size.{Size}
@@ -25,7 +25,7 @@ use Rattle.wait_script.specs.declared.waits.Told.TheVariants as told
 use Rattle.wait_script.specs.WaitScripts.{Seat, first_home, first_homes, first_seats, first_view, first_words, opening_state, slots_of, unless_taken}
 use Rattle.wait_script.specs.Passed.{no_client}
 
-abbrev View : Type 0
+abbrev pub View : Type 0
 View = WaitView (Unit {0})
 
 -- the first seat, which drew so many numbers, and those whom it drew

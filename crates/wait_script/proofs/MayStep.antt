@@ -1,12 +1,11 @@
 -- The machine and the client allow the step that a place of a script names.
-use Rattle.std.proofs.Common.{◌≡◌, ◌∙◌, ℕ, ◌<◌, ◌≤◌, eqb, Bool, true, false, cond, List, [], ◌∷◌, Option, None, Some, refl, sym, ap, subst, arith, eqb-true}
+use Rattle.std.proofs.Common.{◌≡◌, ℕ, ◌<◌, eqb, Bool, true, false, cond, List, [], ◌∷◌, Option, None, Some, refl, ap, eqb-true}
 use Rattle.std.specs.Prelude.{is_none, is_some, ⊤}
 use Rattle.wait_core.specs.declared.step.Call.{Call}
 use Rattle.wait_core.specs.declared.step.Call.TheVariants as call
 use Rattle.wait_core.specs.declared.step.Spot.{Spot}
 use Rattle.wait_core.specs.declared.step.Spot.TheVariants.{Cv}
 use Rattle.wait_core.specs.declared.step.Until.TheVariants.{Latch}
-use Rattle.wait_core.specs.declared.step.WaitStep.TheVariants.{Sload, Take}
 use Rattle.wait_core.specs.declared.view.Frame.TheVariants.{Setting, Telling, Waking, Announcing, Rechecking, CheckingShutdown, Looking, Asleep, Retracting, Draining, Repeating, LeavingSet, LeavingShutdown, Stopping, Taking, Spinning, Holding, Resetting, SleepWaiting, Preparing, Broadcasting, Signalling, Rousing, Settling, Dozing, Passing, Returning}
 use Rattle.wait_core.specs.declared.view.PartyView.{PartyView}
 use Rattle.wait_core.specs.declared.view.Size.{Size}
@@ -94,9 +93,6 @@ module _ (z : Size) (p : ℕ) where
   permits a t (Broadcasting c ∷ rest) attached suits inside fits names = absurd fits
 
 -- THE CLIENT asks only that who attaches isn't attached yet, and that who arrives or leaves is
-abbrev View : Type 0
-View = WaitView (Unit {0})
-
 not_attached : (o : Option ℕ) → is_none o ≡ true → o ≡ None
 not_attached None e = refl
 not_attached (Some n) e = absurd (cc)
@@ -113,7 +109,7 @@ job_suits (call.ArriveDetach b) v may = let at = is_attached (phase_of v.attache
 job_suits (call.ExceptLast b) v may = let at = is_attached (phase_of v.attached b) may in (at.0, at.1, tt, tt)
 job_suits a v may = tt
 
-module _ (p : ℕ) (v : View) where
+module _ (p : ℕ) (v : WaitView (Unit {0})) where
   taking_suits : (a : Call) (o : Option Spot) → JobSuits no_client (asked_by a) (party_of v) → StepSuits no_client (taking_first p a o) v
   taking_suits a None h = tt
   taking_suits a (Some x) h = h

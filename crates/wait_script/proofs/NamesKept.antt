@@ -1,10 +1,10 @@
 -- What a place names is the table's, and each step keeps that.
-use Rattle.std.proofs.Common.{◌≡◌, ◌≢◌, ℕ, zero, suc, ◌+◌, ◌<◌, ◌≤◌, eqb, Bool, true, false, cond, List, [], ◌∷◌, Option, None, Some, refl, sym, ap, subst, arith, eqb-true, eq-eqb}
+use Rattle.std.proofs.Common.{◌≡◌, ◌≢◌, ℕ, ◌+◌, ◌<◌, eqb, Bool, true, false, cond, List, [], ◌∷◌, Option, None, Some, refl, subst, arith, eq-eqb}
 use Rattle.std.specs.Prelude.{⊤}
 use Rattle.wait_core.specs.declared.step.Call.{Call}
 use Rattle.wait_core.specs.declared.step.Call.TheVariants as call
 use Rattle.wait_core.specs.declared.step.Spot.{Spot}
-use Rattle.wait_core.specs.declared.step.Spot.TheVariants.{Cv, Bar}
+use Rattle.wait_core.specs.declared.step.Spot.TheVariants.{Bar}
 use Rattle.wait_core.specs.declared.step.Until.TheVariants.{Latch, LatchOrShutdown}
 use Rattle.wait_core.specs.declared.step.WaitStep.{WaitStep}
 use Rattle.wait_core.specs.declared.step.WaitStep.TheVariants.{Sload, Sset, Reset, Mstore, Mload, Byte, Look, Drain, Shload, Shstore, Take, Spin, Free}
@@ -16,9 +16,9 @@ use Rattle.wait_core.specs.declared.view.Kept.{Kept}
 use Rattle.wait_core.specs.declared.view.Record.{Record}
 use Rattle.wait_core.specs.declared.view.Size.{Size}
 use Rattle.wait_core.specs.Fits.{IsTarget}
-use Rattle.wait_core.specs.Lists.{AllBelow, is_empty, is_listed}
+use Rattle.wait_core.specs.Lists.{AllBelow, is_listed}
 use Rattle.wait_core.specs.Jobs.{goes_on, has_passed, is_awaited, is_last, is_worn, passes_on, resumed, rouses, rouses_on, signals, spot_of}
-use Rattle.wait_core.specs.Machine.{BeginsLoad, IsBelow, IsSpot, Permits, Place, Stand, begun, drained, entered, freed, left_at, looked, marked, named_by, outer, place_then, reloaded, reset, spun, taken, takes_first, woken}
+use Rattle.wait_core.specs.Machine.{BeginsLoad, IsBelow, IsSpot, Permits, Place, Stand, as_kept, begun, drained, entered, freed, left_at, looked, marked, named_by, outer, place_then, reloaded, reset, spun, taken, takes_first, woken}
 use Rattle.wait_script.specs.WaitScripts.{home_after}
 use Rattle.wait_script.proofs.HomeFacts.{left-below}
 
@@ -192,7 +192,7 @@ module _ (z : Size) where
   below_left own (Holding j list found ∷ p) low h = left-below z.procs own j list low h.0.1
   below_left own p low h = tt
 
-  below_taken : (b : Bool) (home : Kept) → AllBelow z.procs home.list.items → AllBelow z.procs (cond b (Rattle.wait_core.specs.Machine.as_kept [] home.record) home).list.items
+  below_taken : (b : Bool) (home : Kept) → AllBelow z.procs home.list.items → AllBelow z.procs (cond b (as_kept [] home.record) home).list.items
   below_taken true home few = tt
   below_taken false home few = few
 

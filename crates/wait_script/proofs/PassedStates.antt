@@ -1,5 +1,5 @@
 -- Each state that a script on waits passes meets the rule.
-use Rattle.std.proofs.Common.{◌≡◌, ◌∙◌, ℕ, zero, suc, ◌+◌, ◌-◌, ◌<◌, ◌≤◌, nat_lt, eqb, Bool, true, false, cond, List, [], ◌∷◌, ◌++◌, map, length, set, get_or, Option, None, Some, refl, sym, ap, subst, arith, eqb-true, get_or-set_same, get_or-set_other}
+use Rattle.std.proofs.Common.{◌≡◌, ◌∙◌, ℕ, ◌-◌, ◌<◌, ◌≤◌, nat_lt, Bool, true, false, cond, List, [], ◌∷◌, map, length, set, get_or, Option, None, Some, refl, sym, ap, subst, arith, get_or-set_same, get_or-set_other}
 use mathlib.Core.Option as maybe
 use mathlib.Core.Logic.{dite}
 use native.Mathlib.Decide.{ℕ_discrete}
@@ -8,22 +8,17 @@ use Rattle.std.specs.Prelude.{All, ◌&&◌, codes, nat_le, option_map, option_a
 use Rattle.std.specs.List.{range_with_len}
 use Rattle.std.specs.Str.{bytes_eq}
 use Rattle.std.proofs.lemmas.Bool.Decides.{nat_tests}
-use Rattle.std.proofs.lemmas.List.{length-set}
+use Rattle.std.proofs.lemmas.List.{get_or_default, length-set}
 use Rattle.std.proofs.lemmas.List.Elements.{All-push}
 use Rattle.std.proofs.lemmas.List.FromFn.{get_or-map-range_with_len, length-map-range_with_len}
-use Rattle.atomic_table.specs.Table.{homes_after}
-use Rattle.atomic_table.proofs.Lists.{at_map}
+use Rattle.atomic_table.proofs.Lists.{at_index, at_map}
 use Rattle.decimal_word.specs.Numbers.{is_decimal, number_of, value_of}
 use Rattle.wait_core.specs.declared.step.Call.{Call}
 use Rattle.wait_core.specs.declared.step.Call.TheVariants as call
-use Rattle.wait_core.specs.declared.step.Spot.{Spot}
 use Rattle.wait_core.specs.declared.step.Until.TheVariants.{Latch, LatchOrShutdown}
 use Rattle.wait_core.specs.declared.step.WaitStep.{WaitStep}
-use Rattle.wait_core.specs.declared.step.WaitStep.TheVariants.{Take}
-use Rattle.wait_core.specs.declared.view.Frame.TheVariants.{Taking}
 use Rattle.wait_core.specs.declared.view.Kept.{Kept}
 use Rattle.wait_core.specs.declared.view.Size.{Size}
-use Rattle.wait_core.specs.declared.view.WaitView.{WaitView}
 use Rattle.wait_core.specs.Words.{last_phase, most_conditions, slots_in}
 use Rattle.wait_core.specs.Fits.{Fits, IsTarget}
 use Rattle.wait_core.specs.Lists.{AllBelow}
@@ -39,25 +34,16 @@ use Rattle.script_play.proofs.Keeping.{ComesWith, EndsWith, played_keeps}
 use Rattle.script_play.proofs.ListFacts.{each-map, each-set, map-set, set-same}
 use Rattle.wait_script.specs.declared.waits.Opening.{Opening}
 use Rattle.wait_script.specs.declared.waits.Told.TheVariants as told
-use Rattle.wait_script.specs.Waits.{answer_line, ask_of, backend_ask, barrier_ask, condition_ask, has_step, may_begin, named_ask, or_else, plain_ask, step_at, still}
-use Rattle.wait_script.specs.WaitScripts.{Script, Seat, begins, begun, entered, first_home, first_homes, first_view, home_after, home_at, nobody, nothing, opening_script, opening_state, own_of, seat_at, slots_of, state_of, steps, turn, wait_play, went}
+use Rattle.wait_script.specs.Waits.{ask_of, backend_ask, barrier_ask, condition_ask, has_step, may_begin, named_ask, or_else, plain_ask, step_at, still}
+use Rattle.wait_script.specs.WaitScripts.{Script, Seat, begins, begun, entered, first_home, first_view, home_after, home_at, nobody, nothing, opening_script, opening_state, own_of, seat_at, state_of, steps, turn, wait_play, went}
 use Rattle.wait_script.specs.Passed.{EachMeetsTheRule, no_client}
-use Rattle.wait_script.proofs.Crowds.{opening_meets}
+use Rattle.wait_script.proofs.Crowds.{View, opening_meets}
 use Rattle.wait_script.proofs.MayStep.{AskSuits, CallNames, owes_nothing, permits, step_suits}
 use Rattle.wait_script.proofs.NamesKept.{PlaceNames, below_home, names_after}
-use Rattle.wait_script.proofs.SlotFacts.{before_spins, slots-follow, slots-long, view-same}
-
-abbrev View : Type 0
-View = WaitView (Unit {0})
+use Rattle.wait_script.proofs.SlotFacts.{before-spins, slots-follow, slots-long, view-same}
 
 abbrev view_of : Seat → View
 view_of x = x.view
-
--- LISTS
-elem_of : {A : Type 0} (d : A) (xs : List A) (i : ℕ) → i < length xs → get_elem? xs i ≡ maybe.some (get_or xs i d)
-elem_of d [] i inside = absurd (omega arith)
-elem_of d (x ∷ xs) zero inside = refl
-elem_of d (x ∷ xs) (suc i) inside = elem_of d xs i (omega arith)
 
 -- CALLS name what is the table's
 number_of-most : (low high n : ℕ) (word : List ℕ) → number_of low high word ≡ Some n → n ≤ high
@@ -190,7 +176,8 @@ turn_good o s p a below good asks =
     let own_is : own ≡ p = ap (λ (q : Option ℕ). machine.number_of q) old.own in
     let mine : v.own ≡ Some own = old.own ∙ ap Some (sym own_is) in
     let own_below : own < z.procs = omega (arith, own_is, below) in
-    let at : get_elem? st.views p ≡ maybe.some v = at_map view_of s.seats p x (elem_of nobody s.seats p (omega (arith, below, good.long))) in
+    let room : p < length s.seats = omega (arith, below, good.long) in
+    let at : get_elem? st.views p ≡ maybe.some v = at_map view_of s.seats p x (at_index s.seats p x room (get_or_default s.seats p nobody x room)) in
     let fits : Fits z.cvs v.target v.place = good.rule.places.fits p (standing_of v) (at_map standing_of st.views p v at) in
     let inside : IsTarget z.cvs v.target = good.rule.places.targets p (standing_of v) (at_map standing_of st.views p v at) in
     let suits : AskSuits z (Some a) v.place v.target v.attached = subst (λ (q : Option Call). AskSuits z q v.place v.target v.attached) asks old.ask in
@@ -201,7 +188,7 @@ turn_good o s p a below good asks =
     let kept : Meets s.opening (after z st p v k) = machine_kept no_client z s.opening.phase 0 st good.rule p v own at mine owes_nothing k (subst (λ (q : Option ℕ). Permits z k q v.target v.place) (sym mine) may) (step_suits own v z a v.target v.place suits) in
     let words : List ℕ = set s.words i (becomes k n) in
     let homes : List Kept = set s.homes (slot_number k) (home_after k n own v.place home) in
-    let slots_are : (after z st p v k).homes ≡ (state_of z words homes s.seats).homes = sym (slots-follow z s.words s.homes good.rule.sized.long many k own n v.place found refl small (before_spins z own k v.target v.place own_below may)) in
+    let slots_are : (after z st p v k).homes ≡ (state_of z words homes s.seats).homes = sym (slots-follow z s.words s.homes good.rule.sized.long many k own n v.place found refl small (before-spins z own k v.target v.place own_below may)) in
     let views_are : (after z st p v k).views ≡ map view_of (set s.seats p y) = ap (λ (w : View). set st.views p w) (view-same z s.words s.homes good.rule.sized.long many k own n v refl) ∙ sym (map-set view_of s.seats p y) in
     let rule : Meets s.opening (state_of z words homes (set s.seats p y)) = subst (Meets s.opening) (λ j. let t : WaitState (Unit {0}) = record { words = words; homes = slots_are j; views = views_are j } in t) kept in
     record {

@@ -1,5 +1,5 @@
 -- The slots of a script's state go on as those of the machine.
-use Rattle.std.proofs.Common.{◌≡◌, ◌∙◌, ℕ, zero, suc, ◌+◌, ◌<◌, ◌≤◌, eqb, Bool, true, false, cond, List, [], ◌∷◌, ◌++◌, drop, length, set, get_or, Option, None, Some, refl, sym, ap, subst, arith, eq-eqb, eqb-true}
+use Rattle.std.proofs.Common.{◌≡◌, ◌∙◌, ℕ, zero, suc, ◌+◌, ◌<◌, ◌≤◌, eqb, Bool, true, false, cond, List, [], ◌∷◌, ◌++◌, drop, length, set, get_or, Option, None, Some, refl, sym, ap, arith, eq-eqb, eqb-true}
 use mathlib.Core.Option as maybe
 use Rattle.std.proofs.Math.Seq.{get_or-drop}
 use Rattle.std.proofs.lemmas.List.{drop-set-add, drop-set-lt, length-drop}
@@ -38,25 +38,25 @@ slots-home (s ∷ spins) (h ∷ homes) zero clear = rw (eq-eqb s 0 clear) refl
 slots-home (s ∷ spins) (h ∷ homes) (suc x) clear = slots-home spins homes x clear
 
 -- A STEP that is on no spin word is on a word before them
-pub before_spins : (z : Size) (o : ℕ) (k : WaitStep) (t : Option ℕ) (p : Place) → o < z.procs → Permits z k (Some o) t p → step_spot k ≡ None → word_of z o k < spin_at z 0
-before_spins z o (Sload q (Some (call.Set r))) t p below ok none = let few = ok.0.1 in omega arith
-before_spins z o (Sload q (Some (call.Wait u))) t p below ok none = let is : o ≡ q = cc (ok.0) in omega arith
-before_spins z o (Sload q (Some call.IsSet)) t p below ok none = let is : o ≡ q = cc (ok.0) in omega arith
-before_spins z o (Sload q (Some (call.Sleep c))) t p below ok none = let is : o ≡ q = cc (ok.0.0) in omega arith
-before_spins z o (Sload q (Some c)) t p below ok none = absurd ok.0
-before_spins z o (Sload q None) t p below ok none = let is : o ≡ q = cc (ok.0) in omega arith
-before_spins z o (Sset q) t p below ok none = let few = ok.0 in omega arith
-before_spins z o (Reset b) t p below ok none = omega arith
-before_spins z o (Mstore may) t p below ok none = omega arith
-before_spins z o (Mload q) t p below ok none = let few = ok.0 in omega arith
-before_spins z o (Byte q) t p below ok none = let few = ok.0 in omega arith
-before_spins z o Look t p below ok none = omega arith
-before_spins z o Drain t p below ok none = omega arith
-before_spins z o (Shload b) t p below ok none = omega arith
-before_spins z o (Shstore b) t p below ok none = omega arith
-before_spins z o (Take x b) t p below ok none = absurd (cc)
-before_spins z o (Spin x) t p below ok none = absurd (cc)
-before_spins z o (Free x after) t p below ok none = absurd (cc)
+pub before-spins : (z : Size) (o : ℕ) (k : WaitStep) (t : Option ℕ) (p : Place) → o < z.procs → Permits z k (Some o) t p → step_spot k ≡ None → word_of z o k < spin_at z 0
+before-spins z o (Sload q (Some (call.Set r))) t p below ok none = let few = ok.0.1 in omega arith
+before-spins z o (Sload q (Some (call.Wait u))) t p below ok none = let is : o ≡ q = cc (ok.0) in omega arith
+before-spins z o (Sload q (Some call.IsSet)) t p below ok none = let is : o ≡ q = cc (ok.0) in omega arith
+before-spins z o (Sload q (Some (call.Sleep c))) t p below ok none = let is : o ≡ q = cc (ok.0.0) in omega arith
+before-spins z o (Sload q (Some c)) t p below ok none = absurd ok.0
+before-spins z o (Sload q None) t p below ok none = let is : o ≡ q = cc (ok.0) in omega arith
+before-spins z o (Sset q) t p below ok none = let few = ok.0 in omega arith
+before-spins z o (Reset b) t p below ok none = omega arith
+before-spins z o (Mstore may) t p below ok none = omega arith
+before-spins z o (Mload q) t p below ok none = let few = ok.0 in omega arith
+before-spins z o (Byte q) t p below ok none = let few = ok.0 in omega arith
+before-spins z o Look t p below ok none = omega arith
+before-spins z o Drain t p below ok none = omega arith
+before-spins z o (Shload b) t p below ok none = omega arith
+before-spins z o (Shstore b) t p below ok none = omega arith
+before-spins z o (Take x b) t p below ok none = absurd (cc)
+before-spins z o (Spin x) t p below ok none = absurd (cc)
+before-spins z o (Free x after) t p below ok none = absurd (cc)
 
 module _ (z : Size) (words : List ℕ) (homes : List Kept) (long : length words ≡ client_base z + 0) (many : length homes ≡ slots_in z) where
   abbrev slots : List ℕ → List Kept → List (maybe.Option Kept)
