@@ -41,11 +41,13 @@ pub record Script : Type 0 where
 abbrev pub unless_taken : ℕ → Kept → maybe.Option Kept
 unless_taken spin home = cond (spin == 0) (maybe.some home) maybe.none
 
+-- there are as many words as slots; one that had no word would be at home
 abbrev pub slots_of : List ℕ → List Kept → List (maybe.Option Kept)
 slots_of spins [] = []
 slots_of [] (home ∷ homes) = maybe.some home ∷ slots_of [] homes
 slots_of (spin ∷ spins) (home ∷ homes) = unless_taken spin home ∷ slots_of spins homes
 
+-- the spin words stand last
 abbrev pub state_of : Size → List ℕ → List Kept → List Seat → WaitState (Unit {0})
 state_of z words homes seats = record { words = words; homes = slots_of (drop (spin_at z 0) words) homes; views = map (λ x. x.view) seats }
 
@@ -114,6 +116,7 @@ went z k n home x = record {
 abbrev pub shown : Size → ℕ → Call → WaitStep → ℕ → Seat → List ℕ
 shown z p a k n y = step_line z p k (word_of z p k) (becomes k n) ++ ended y.ask (answer_line p (answer a n y.told))
 
+-- and the state after it was passed
 abbrev pub moved : Script → List ℕ → List Kept → List Seat → Script
 moved s words homes seats = record { opening = s.opening; words = words; homes = homes; seats = seats; passed = s.passed ++ state_of s.opening.size words homes seats ∷ [] }
 
