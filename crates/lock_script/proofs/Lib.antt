@@ -5,3 +5,4 @@ pub mod Slots
 pub mod Crowds
 pub mod MayStep
 pub mod PassedStates
+pub mod HeaderFacts

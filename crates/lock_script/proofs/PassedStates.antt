@@ -12,7 +12,8 @@ use Rattle.std.proofs.lemmas.List.Elements.{All-push}
 use Rattle.std.proofs.lemmas.List.FromFn.{get_or-map-range_with_len, length-map-range_with_len}
 use Rattle.atomic_table.specs.Table.{stepped}
 use Rattle.atomic_table.proofs.Lists.{at_index, at_map}
-use Rattle.decimal_word.specs.Numbers.{is_decimal, number_of, value_of}
+use Rattle.decimal_word.specs.Numbers.{number_of}
+use Rattle.decimal_word.proofs.NumberFacts.{number_of-range}
 use Rattle.proc_table.specs.declared.Mode.{Mode}
 use Rattle.seat_roster.specs.Roster.{Numbers}
 use Rattle.lw_core.specs.declared.step.Call.TheVariants as call
@@ -48,16 +49,6 @@ abbrev view_of : Seat → View
 view_of x = x.view
 
 -- CALLS name locks and backends of the table
-number_of-most : (low high n : ℕ) (word : List ℕ) → number_of low high word ≡ Some n → n ≤ high
-unfolding number_of
-number_of-most low high n word = by_case (is_decimal word) (nat_le low (value_of word)) (nat_le (value_of word) high) refl
-  where
-    by_case : (a b c : Bool) → nat_le (value_of word) high ≡ c → cond (a && (b && c)) (Some (value_of word)) None ≡ Some n → n ≤ high
-    by_case true true true e is = let same : value_of word ≡ n = cc in grind (arith, nat_tests, e, same)
-    by_case true true false e is = absurd cc
-    by_case true false c e is = absurd cc
-    by_case false b c e is = absurd cc
-
 module _ (z : Size) (locks : 0 < z.locks) (procs : 0 < z.procs) where
   fits_cond : (b : Bool) (o q : Option Ask) → AsksFit z o → AsksFit z q → AsksFit z (cond b o q)
   fits_cond true o q h k = h
@@ -72,10 +63,10 @@ module _ (z : Size) (locks : 0 < z.locks) (procs : 0 < z.procs) where
   fits_then f (Some n) each = each n refl
 
   lock_below : (n : ℕ) (word : List ℕ) → number_of 0 (z.locks - 1) word ≡ Some n → n < z.locks
-  lock_below n word is = let most = number_of-most 0 (z.locks - 1) n word is in omega (arith, most, locks)
+  lock_below n word is = let most = (number_of-range 0 (z.locks - 1) n word is).1 in omega (arith, most, locks)
 
   proc_below : (n : ℕ) (word : List ℕ) → number_of 0 (z.procs - 1) word ≡ Some n → n < z.procs
-  proc_below n word is = let most = number_of-most 0 (z.procs - 1) n word is in omega (arith, most, procs)
+  proc_below n word is = let most = (number_of-range 0 (z.procs - 1) n word is).1 in omega (arith, most, procs)
 
   short_fits : (name argument : List ℕ) → AsksFit z (short_ask z name argument)
   short_fits name argument = fits_cond (bytes_eq name (codes "release")) _ _ (fits_map _ (number_of 0 (z.locks - 1) argument) (λ n is. (lock_below n argument is, tt)))
@@ -104,7 +95,7 @@ module _ (z : Size) (locks : 0 < z.locks) (procs : 0 < z.procs) where
 
     write_fits : (name at value : List ℕ) → AsksFit z (write_ask name l at value)
     write_fits name at value = fits_cond (bytes_eq name (codes "write")) _ None
-        (fits_then _ (number_of 0 3 at) (λ k is. let most = number_of-most 0 3 k at is in fits_map (λ x. Write l k x) (number value) (λ x read. (inside, omega (arith, most))))) tt
+        (fits_then _ (number_of 0 3 at) (λ k is. let most = (number_of-range 0 3 k at is).1 in fits_map (λ x. Write l k x) (number value) (λ x read. (inside, omega (arith, most))))) tt
 
     lock_fits : (name argument : List ℕ) (o : Option (List ℕ)) → AsksFit z (lock_ask name l argument o)
     lock_fits name argument None = moded_fits name argument (mode_of argument)

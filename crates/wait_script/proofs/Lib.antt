@@ -6,3 +6,4 @@ pub mod Crowds
 pub mod NamesKept
 pub mod MayStep
 pub mod PassedStates
+pub mod HeaderFacts

@@ -12,7 +12,8 @@ use Rattle.std.proofs.lemmas.List.{get_or_default, length-set}
 use Rattle.std.proofs.lemmas.List.Elements.{All-push}
 use Rattle.std.proofs.lemmas.List.FromFn.{get_or-map-range_with_len, length-map-range_with_len}
 use Rattle.atomic_table.proofs.Lists.{at_index, at_map}
-use Rattle.decimal_word.specs.Numbers.{is_decimal, number_of, value_of}
+use Rattle.decimal_word.specs.Numbers.{number_of}
+use Rattle.decimal_word.proofs.NumberFacts.{number_of-range}
 use Rattle.wait_core.specs.declared.step.Call.{Call}
 use Rattle.wait_core.specs.declared.step.Call.TheVariants as call
 use Rattle.wait_core.specs.declared.step.Until.TheVariants.{Latch, LatchOrShutdown}
@@ -46,16 +47,6 @@ abbrev view_of : Seat → View
 view_of x = x.view
 
 -- CALLS name what is the table's
-number_of-most : (low high n : ℕ) (word : List ℕ) → number_of low high word ≡ Some n → n ≤ high
-unfolding number_of
-number_of-most low high n word = by_case (is_decimal word) (nat_le low (value_of word)) (nat_le (value_of word) high) refl
-  where
-    by_case : (a b c : Bool) → nat_le (value_of word) high ≡ c → cond (a && (b && c)) (Some (value_of word)) None ≡ Some n → n ≤ high
-    by_case true true true e is = let same : value_of word ≡ n = cc in grind (arith, nat_tests, e, same)
-    by_case true true false e is = absurd cc
-    by_case true false c e is = absurd cc
-    by_case false b c e is = absurd cc
-
 module _ (z : Size) where
   abbrev AskNames : Option Call → Type 0
   AskNames None = Unit {0}
@@ -104,10 +95,10 @@ module _ (z : Size) where
   names_ask name None procs cvs bars = names_plain name
   names_ask name (Some argument) procs cvs bars =
       names_or (option_and_then (backend_ask name) (number_of 0 (z.procs - 1) argument)) _
-      (names_number (backend_ask name) (z.procs - 1) _ (λ n is. number_of-most 0 (z.procs - 1) n argument is) (λ n most. names_backend name n (omega arith)))
+      (names_number (backend_ask name) (z.procs - 1) _ (λ n is. (number_of-range 0 (z.procs - 1) n argument is).1) (λ n most. names_backend name n (omega arith)))
       (names_or (option_and_then (condition_ask name) (number_of 0 (z.cvs - 1) argument)) _
-      (names_number (condition_ask name) (z.cvs - 1) _ (λ n is. number_of-most 0 (z.cvs - 1) n argument is) (λ n most. names_condition name n (omega arith)))
-      (names_number (barrier_ask name) (z.bars - 1) _ (λ n is. number_of-most 0 (z.bars - 1) n argument is) (λ n most. names_barrier name n (omega arith))))
+      (names_number (condition_ask name) (z.cvs - 1) _ (λ n is. (number_of-range 0 (z.cvs - 1) n argument is).1) (λ n most. names_condition name n (omega arith)))
+      (names_number (barrier_ask name) (z.bars - 1) _ (λ n is. (number_of-range 0 (z.bars - 1) n argument is).1) (λ n most. names_barrier name n (omega arith))))
 
 asked_suits : (z : Size) (a : Call) (p : Place) (t : Option ℕ) (attached : List (ℕ × ℕ)) → CallNames z a → has_step a t ≡ true → may_begin a attached ≡ true → AskSuits z (Some a) p t attached
 asked_suits z a [] t attached names step may = (names, step, may)

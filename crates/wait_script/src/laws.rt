@@ -1,17 +1,12 @@
 //! A theorem over scripts. The function does nothing.
-ghost use Rattle.std.specs.Prelude.{◌<◌, ◌≤◌, List};
-ghost use Rattle.wait_core.specs.Words.{last_phase, most_conditions};
+ghost use Rattle.std.specs.Prelude.{◌≡◌, ℕ, List, Some};
 ghost use Rattle.script_play.specs.Lines.{Numbered};
-ghost use Rattle.wait_script.specs.WaitScripts.{wait_play};
+ghost use Rattle.wait_script.specs.declared.waits.Opening.{Opening};
+ghost use Rattle.wait_script.specs.WaitScripts.{wait_header, wait_play};
 ghost use Rattle.wait_script.specs.Passed.{EachMeetsTheRule};
 
-use crate::waits::Opening;
-
-/// Each state that a script passes meets the rule of the machine's table, from its opening on.
-pub fn passed_states_hold(opening: Opening)
-    requires procs { (0 < opening.size.procs) × (opening.size.procs ≤ 64) }
-    requires conditions { opening.size.cvs ≤ most_conditions }
-    requires barriers { (0 < opening.size.bars) × (opening.size.bars ≤ opening.size.cvs) }
-    requires phase { opening.phase ≤ last_phase }
-    ensures { (lines : List Numbered) → EachMeetsTheRule opening (wait_play opening lines) }
+/// Each state that a script passes meets the rule of the machine's table, from the opening on that
+/// its first line gives.
+pub fn passed_states_hold()
+    ensures { (line : List ℕ) (opening : Opening) (lines : List Numbered) → wait_header line ≡ Some opening → EachMeetsTheRule opening (wait_play opening lines) }
 {}
