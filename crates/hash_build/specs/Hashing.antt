@@ -4,7 +4,7 @@ use Rattle.row_model.specs.declared.Route.{Route}
 use Rattle.row_model.specs.declared.Side.{Side}
 use Rattle.row_model.specs.declared.Side.TheVariants.{Inner, Outer}
 use Rattle.lw_core.specs.declared.view.View as lock
-use Rattle.lw_core.specs.Machine.{mode_in}
+use Rattle.lw_core.specs.Machine.{HoldsNothing}
 use Rattle.wait_core.specs.declared.view.WaitView.{WaitView}
 use Rattle.join_law.specs.declared.view.HashView.{HashView}
 use Rattle.join_law.specs.declared.view.Known.{Known}
@@ -58,9 +58,9 @@ pub record ClaimsNone (v w : HashView) : Type 0 where
   pub chunks : w.chunks ≡ v.chunks
   pub claimed : w.claimed ≡ v.claimed
 
--- the seat at the lock is in no call, and doesn't hold the lock
+-- the seat at the lock is in no call, and holds nothing
 abbrev pub IsFree : lock.View → Type 0
-IsFree v = (v.place ≡ []) × (mode_in 0 v ≡ None)
+IsFree v = (v.place ≡ []) × HoldsNothing v
 
 -- the numbers of a seat, and the numbers drawn and taken over for others, are the same
 pub record SameNumbers (v w : lock.View) : Type 0 where

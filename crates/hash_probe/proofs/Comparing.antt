@@ -113,6 +113,22 @@ few_pass p l n each = filter_le p l (range_with_len 0 n) (λ x. dite (dec_le 1 (
     (λ some. let less = (each x).1 some in let most = (each x).0 in let all = once_in 0 n x (omega arith) (omega arith) in omega arith)
     (λ none. omega arith))
 
+-- rows that are there, each once, are no more than there are
+filter_all : (l : List ℕ) → filter (λ (x : ℕ). true) l ≡ l
+filter_all [] = refl
+filter_all (x ∷ xs) = ap (λ (l : List ℕ). x ∷ l) (filter_all xs)
+
+range_long : (a n : ℕ) → length (range_with_len a n) ≡ n
+range_long a zero = refl
+range_long a (suc n) = let i = range_long (a + 1) n in omega arith
+
+pub rows_few : (l : List ℕ) (n : ℕ) → ((x : ℕ) → (times x l ≤ 1) × (1 ≤ times x l → x < n)) → length l ≤ n
+rows_few l n each =
+    let few = few_pass (λ (x : ℕ). true) l n each in
+    let mine : length (filter (λ (x : ℕ). true) l) ≡ length l = ap length (filter_all l) in
+    let all : length (filter (λ (x : ℕ). true) (range_with_len 0 n)) ≡ n = ap length (filter_all (range_with_len 0 n)) ∙ range_long 0 n in
+    omega arith
+
 -- rows that a walk passed agree with its outer row no more often than all inner rows do
 pub agreeing_few : (p : HashParty) (row hash : ℕ) (l : List ℕ) → length p.inner.now.rows ≤ row → (join p).hash row ≡ Some hash → ((x : ℕ) → (times x l ≤ 1) × (1 ≤ times x l → x < length p.inner.now.rows))
     → agreeing_among p.inner.now p.buckets hash l ≤ walk_of p.outer.now p.inner.now p.buckets row

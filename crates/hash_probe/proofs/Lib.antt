@@ -5,3 +5,10 @@ pub mod Loop
 pub mod Counting
 pub mod Walking
 pub mod Probing
+pub mod RowsDone
+pub mod Signals
+pub mod Saying
+pub mod Working
+pub mod Attached
+pub mod Loading
+pub mod Handling

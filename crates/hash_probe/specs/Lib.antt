@@ -1,3 +1,9 @@
 pub mod Looks
 pub mod Probing
 pub mod Walks
+pub mod Rows
+pub mod Signals
+pub mod Marks
+pub mod Working
+pub mod Loads
+pub mod Probes

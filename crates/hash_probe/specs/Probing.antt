@@ -1,5 +1,5 @@
 -- When a seat may probe an outer row, and what it knows then.
-use Rattle.std.specs.Prelude.{◌≡◌, ℕ, ◌-◌, ◌≤◌, List, ◌∷◌, ◌++◌, map}
+use Rattle.std.specs.Prelude.{◌≡◌, ℕ, ◌-◌, ◌≤◌, List, ◌∷◌, ◌++◌, map, length}
 use Rattle.row_model.specs.declared.Pair.{Pair}
 use Rattle.row_model.specs.declared.Side.TheVariants.{Outer}
 use Rattle.seat_roster.specs.Roster.{times}
@@ -33,7 +33,7 @@ with_probed v p = record (dropped v p.row) { probed = p ∷ v.probed }
 abbrev pub with_given : HashView → ℕ → HashView
 with_given v row = record (dropped v row) { given = row ∷ v.given }
 
--- The row was probed with the inner rows that it meets, each once. Its pairs are behind those before, and the count that the result count was carried to has all pairs that the seat found
+-- The row was probed with the inner rows that it meets, each once. Its pairs are behind those before, and the count that the result count was carried to has all pairs that the seat found; and it can't have probed more rows than there may be
 pub record ProbesRow (j : Join) (v w : WaitView HashView) (row : ℕ) (before after : List Pair) (count : ℕ) : Type 0 where
   pub probed : Probed
   pub same : probed.row ≡ row
@@ -41,6 +41,7 @@ pub record ProbesRow (j : Join) (v w : WaitView HashView) (row : ℕ) (before af
   pub once : (i : ℕ) → times i probed.pairs ≡ meeting j row i
   pub pairs : after ≡ before ++ pairs_of_row j.inner probed
   pub counted : pairs_in w.client.probed ≤ count
+  pub few : length w.client.probed ≤ 1073741824
 
 -- the row was given up, and none of its pairs is kept
 pub record GivesUpRow (v w : WaitView HashView) (row : ℕ) (before after : List Pair) : Type 0 where

@@ -16,8 +16,11 @@ use std::sync::Wait;
 use std::sync::ledger::Ledger;
 use wait_core::{WaitSeat, WaitTable};
 
-// Probes an outer row in hand.
-pub(crate) fn probe<'r, R: Wait, L: Ledger>(
+// Probes an outer row in hand (`ExecScanHashBucket`): its pairs go behind those that `pairs` has, and
+// their number is added to the result count. Answers the count then, at most the number of all pairs. Where
+// memory runs out the row is given up, and none of its pairs is kept. At most one look for each inner row whose
+// hash agrees with the row's modulo the opening buckets.
+pub(crate) fn probe_row<'r, R: Wait, L: Ledger>(
     rt: &R,
     waits: &WaitTable<HashParty<'r>>,
     seat: &mut WaitSeat<HashParty<'r>>,

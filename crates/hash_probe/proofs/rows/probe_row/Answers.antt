@@ -11,7 +11,7 @@ use Rattle.shared_tuples.specs.Tuples.{KnowsSizes}
 use Rattle.hash_probe.specs.Looks.{agreeing_among, walk_of}
 use Rattle.hash_probe.specs.Walks.{MayWalk, walking}
 use Rattle.hash_probe.proofs.Probing.{key_few, row_hash, knows_sizes, may_walk, how_many, looks_few, probed_row, results_fit, count_few}
-use Rattle.hash_probe.proofs.probes.probe.Goals as goal
+use Rattle.hash_probe.proofs.rows.probe_row.Goals as goal
 
 pub overflow_cast-hash : goal.overflow_cast-hash
 overflow_cast-hash g c =
@@ -62,7 +62,7 @@ returns-in-Ok-clause-probed g c =
     let many : count ≡ length (partners (join p) row end.passed) = omega arith in
     let stood = c.client-results.ensures.stood in
     let at = end.view ∙ ap (λ (y : WaitView HashView). walking y row end.passed 0) (c.chain_of-head.ensures.view ∙ c.client-hash.ensures.view) in
-    probed_row p _ _ _ stood.rule.client _ c.walk.new.seat.view stood.step c.args.seat.now.view c.client-results.new.seat.view row count c.client-results.result.old end.passed c.args.pairs.now.items c.walk.new.pairs.items at end.pairs many stood.read c.client-results.ensures.view
+    probed_row p _ _ _ stood.rule.client _ c.walk.new.seat.view stood.step c.args.seat.now.view c.client-results.new.seat.view row count c.client-results.result.old end.passed c.args.pairs.now.items c.walk.new.pairs.items c.requires.row.ready.0 at end.pairs many stood.read c.client-results.ensures.view
 
 pub returns-in-Ok-clause-few : goal.returns-in-Ok-clause-few
 returns-in-Ok-clause-few g c =

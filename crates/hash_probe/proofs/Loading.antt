@@ -1,0 +1,70 @@
+-- How an inner row that is taken out of its store is inserted.
+use Rattle.std.proofs.Common.{◌≡◌, ℕ, ◌+◌, ◌^◌, ◌<◌, ◌≤◌, List, length, get_or, refl, sym, ap, ◌∙◌, subst, arith, inr, Some}
+use Rattle.std.specs.Int.{IsPowerOfTwo}
+use Rattle.std.proofs.lemmas.Option.{same_Some}
+use Rattle.row_model.specs.declared.Route.{Route}
+use Rattle.row_model.specs.Routes as routes
+use Rattle.row_model.specs.Table.{key_of}
+use Rattle.wait_core.specs.declared.view.WaitView.{WaitView}
+use Rattle.wait_core.specs.Ops.{op_at}
+use Rattle.wait_core.specs.Parties.{IsStep, phase_of}
+use Rattle.wait_core.specs.Seating.{party_of}
+use Rattle.join_law.specs.declared.view.HashView.{HashView}
+use Rattle.join_law.specs.declared.step.HashStep.TheVariants.{Load}
+use Rattle.join_law.specs.declared.step.Look.TheVariants.{Plain}
+use Rattle.join_law.specs.declared.step.Word.TheVariants.{Hash}
+use Rattle.join_law.specs.Layout.{Join, SizesOf, sizes_of}
+use Rattle.join_law.specs.Machine.{At, step_op}
+use Rattle.join_law.specs.Phases.{known_at, known_word, batch_bar, LOAD}
+use Rattle.join_law.specs.Routes.{batch_of}
+use Rattle.join_law.specs.Stands.{SizesFit, Stands}
+use Rattle.join_law.specs.Views.{View}
+use Rattle.join_law.proofs.Callers.{with_there}
+use Rattle.join_law.proofs.Learned.{hand_row, hash_found}
+use Rattle.join_party.specs.declared.party.HashParty.{HashParty}
+use Rattle.join_party.specs.Joins.{join}
+use Rattle.shared_tuples.specs.Tuples.{IsReady, Leads, MayInsert, Routed}
+use Rattle.shared_tuples.proofs.Tuples.{routed}
+use Rattle.hash_probe.specs.declared.HashTable.{HashTable}
+use Rattle.hash_probe.specs.Loads.{MayLoad}
+use Rattle.hash_probe.specs.Working.{KnowsTable}
+use Rattle.hash_probe.proofs.Comparing.{inner_hash}
+use Rattle.hash_probe.proofs.Hashes.{hash_few}
+
+-- the word that was found is the hash of the row's key, which has 32 bits
+pub inner_found : (p : HashParty) (words : List ℕ) (views : List View) (phases : List ℕ) (h : Stands (join p) words views phases) (id : ℕ) (w : WaitView HashView) (s : IsStep views phases id (party_of w)) (row n : ℕ) → IsReady (party_of w) row → row < length p.inner.now.rows
+    → get_or words (op_at (step_op (join p) (Load (Plain (Hash row))))) 0 ≡ n → ((join p).hash row ≡ Some n) × (n < 2 ^ 32)
+inner_found p words views phases h id w s row n ready less found =
+    let there = hand_row (join p) words views phases h id (party_of w) s row ready.0 in
+    let key = hash_found (join p) words views phases h id (party_of w) s row n found there ready.1 in
+    (key, hash_few (key_of p.inner.now row) n (sym (inner_hash p row less) ∙ key))
+
+-- what the seat knows of the table is what it knows for good
+known_table : (j : Join) (v : View) (table : HashTable) → (k : KnowsTable j v.client.known table) → known_word v ≡ Some k.word
+known_table j v table k = ap (λ o. known_at o (phase_of v.attached 1) (phase_of v.attached 2)) k.is
+
+-- the numbers of buckets and batches are powers of two, and not too many
+pub table_fits : (j : Join) (v : View) (table : HashTable) → KnowsTable j v.client.known table → (IsPowerOfTwo table.buckets × (table.buckets ≤ 262144)) × (IsPowerOfTwo table.batches × (table.batches ≤ 64))
+table_fits j v table k =
+    let z : SizesOf = sizes_of k.word in (
+      subst (λ (n : ℕ). IsPowerOfTwo n × (n ≤ 262144)) k.buckets (k.fit.powers.0, k.fit.few),
+      subst (λ (n : ℕ). IsPowerOfTwo n × (n ≤ 64)) k.batches (k.fit.powers.1, k.fit.most),
+    )
+
+-- the row may be inserted where its hash leads
+pub may_insert : (j : Join) (v : View) (table : HashTable) (route : Route) (row x : ℕ) → MayLoad j v table row → j.hash row ≡ Some x → route.bucket ≡ routes.bucket_of table.buckets x → route.batch ≡ routes.batch_of table.buckets table.batches x → MayInsert j v route row
+may_insert j v table route row x may key bucket batch =
+    let k = may.known in
+    let z : SizesOf = sizes_of k.word in
+    let b : routes.bucket_of z.buckets x ≡ route.bucket = ap (λ (n : ℕ). routes.bucket_of n x) k.buckets ∙ sym bucket in
+    let c : routes.batch_of z.buckets z.batches x ≡ route.batch = ap {A = ℕ × ℕ} (λ n. routes.batch_of n.0 n.1 x) (λ i. (k.buckets i, k.batches i)) ∙ sym batch in
+    let r = routed j v row (λ z x. At v (batch_bar (batch_of z x)) LOAD) may.loading in
+    let same : r.0 ≡ x = same_Some r.0 x (sym r.2 ∙ key) in
+    let word : r.1 ≡ k.word = same_Some r.1 k.word (sym r.3 ∙ known_table j v table k) in
+    let here : batch_of (sizes_of r.1) r.0 ≡ route.batch = ap {A = ℕ × ℕ} (λ n. batch_of (sizes_of n.0) n.1) (λ i. (word i, same i)) ∙ c in
+    record {
+      ready = may.ready;
+      inner = may.inner;
+      fills = inr (may.running, subst (λ (n : ℕ). At v (batch_bar n) LOAD) here r.4);
+      leads = with_there (j.hash row) _ x key (with_there (known_word v) _ k.word (known_table j v table k) (b, c));
+    }
