@@ -94,7 +94,7 @@ filter_le p (r ∷ rs) k less =
     let c = filter_without p r k here in
     let i = filter_le p rs (without r k) (λ x. let a = less x in let b = times_without r k here x in omega arith) in omega arith
 
-none_in : (a n i : ℕ) → (i < a) ⊎ (a + n ≤ i) → times i (range_with_len a n) ≡ 0
+pub none_in : (a n i : ℕ) → (i < a) ⊎ (a + n ≤ i) → times i (range_with_len a n) ≡ 0
 none_in a zero i out = refl
 none_in a (suc n) i out =
     let ne : a ≢ i = λ e. ⊎_elim (λ x. absurd (omega arith)) (λ x. absurd (omega arith)) out in

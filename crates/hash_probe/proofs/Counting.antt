@@ -27,19 +27,20 @@ use Rattle.join_law.proofs.Learned.{word_found}
 use Rattle.join_party.specs.declared.party.HashParty.{HashParty}
 use Rattle.join_party.specs.Joins.{join}
 use Rattle.hash_probe.specs.Probing.{pairs_of_row}
-use Rattle.hash_probe.proofs.Hits.{hits, hits_append, pairs_le}
+use Rattle.hash_probe.specs.Hits.{hits}
+use Rattle.hash_probe.proofs.Hits.{hits_append, pairs_le}
 use Rattle.hash_probe.proofs.Loop.{paired_same, paired_other, loop_once}
 
 -- the pairs of rows that were probed
-abbrev pairs_named : ℕ → List Probed → List Pair
+abbrev pub pairs_named : ℕ → List Probed → List Pair
 pairs_named inner ps = flat_map (pairs_of_row inner) ps
 
 -- what the law says of the rows probed: outer rows, and with each the inner rows that it meets, once
-abbrev AllMet : Join → List Probed → Type 0
+abbrev pub AllMet : Join → List Probed → Type 0
 AllMet j ps = (k : ℕ) (q : Probed) → get_elem? ps k ≡ maybe.some q → (j.inner ≤ q.row) × ((i : ℕ) → times i q.pairs ≡ meeting j q.row i)
 
 -- a pair is named as often as its outer row, where its rows meet, and else never
-named : (j : Join) (o i : ℕ) (ps : List Probed) → AllMet j ps → hits o i (pairs_named j.inner ps) ≡ cond (j.meets (j.inner + o) i) (times (j.inner + o) (probed_rows ps)) 0
+pub named : (j : Join) (o i : ℕ) (ps : List Probed) → AllMet j ps → hits o i (pairs_named j.inner ps) ≡ cond (j.meets (j.inner + o) i) (times (j.inner + o) (probed_rows ps)) 0
 named j o i [] met = ⊎_elim (λ t. sym (ap (λ b. cond b 0 0) t)) (λ f. sym (ap (λ b. cond b 0 0) f)) (cases_Bool (j.meets (j.inner + o) i))
 named j o i (q ∷ qs) met =
     let r = named j o i qs (λ k p at. met (suc k) p at) in
@@ -102,7 +103,7 @@ all_hits j o i (v ∷ vs) met =
     split false h x y u t s a r = omega arith
 
 -- rows that are there meet in the join as their keys do
-meets_there : (p : HashParty) (o i : ℕ) → i < length p.inner.now.rows → (join p).meets (length p.inner.now.rows + o) i ≡ meets (key_of p.outer.now o) (key_of p.inner.now i)
+pub meets_there : (p : HashParty) (o i : ℕ) → i < length p.inner.now.rows → (join p).meets (length p.inner.now.rows + o) i ≡ meets (key_of p.outer.now o) (key_of p.inner.now i)
 meets_there p o i less =
     let n : ℕ = length p.inner.now.rows in
     let a = lt-ltb i n less in

@@ -1,5 +1,5 @@
 -- One row is probed or given up.
-use Rattle.std.proofs.Common.{◌≡◌, ◌⊎◌, ℕ, suc, ◌+◌, ◌-◌, ◌<◌, ◌≤◌, Bool, cond, eq-eqb, List, [], ◌∷◌, ◌++◌, length, map, refl, sym, ap, ◌∙◌, subst, arith, inl, inr, Some, None, true, false}
+use Rattle.std.proofs.Common.{◌≡◌, ℕ, suc, ◌+◌, ◌≤◌, Bool, cond, eq-eqb, List, [], ◌∷◌, ◌++◌, length, refl, sym, ap, ◌∙◌, subst, arith, inl, inr, None, true}
 use Rattle.std.proofs.lemmas.Bool.{true≢false}
 use Rattle.std.proofs.lemmas.List.{append-nil, length-append, length-map}
 use Rattle.row_model.specs.declared.Pair.{Pair}
@@ -21,9 +21,9 @@ use Rattle.join_party.specs.Joins.{join}
 use Rattle.hash_probe.specs.declared.Probed.{Probed}
 use Rattle.hash_probe.specs.Loads.{ProbesNone}
 use Rattle.hash_probe.specs.Looks.{walk_of}
-use Rattle.hash_probe.specs.Marks.{CarriesOver, CountsRow, IsUnmarked, PassesLimit, Says, SaysOver, counted, most_pairs}
-use Rattle.hash_probe.specs.Probing.{GivesUpRow, ProbesRow, pairs_of_row, with_given, with_probed}
-use Rattle.hash_probe.specs.Rows.{DoesRows, ProbesOnly, looks_at}
+use Rattle.hash_probe.specs.Marks.{CountsRow, IsUnmarked, Says, SaysOver}
+use Rattle.hash_probe.specs.Probing.{ProbesRow, pairs_of_row, with_given, with_probed}
+use Rattle.hash_probe.specs.Rows.{DoesRows, ProbesOnly}
 use Rattle.hash_probe.specs.Signals.{GoesOn, STOP, swaps}
 use Rattle.hash_probe.specs.Working.{HandlesRow, StaysAttached, Worked}
 use Rattle.hash_probe.proofs.RowsDone.{does_none, does_on, moved_only, stays_none}

@@ -1,20 +1,14 @@
--- How often a pair stands in a list.
+-- How often a pair stands in lists that are put together, and what follows of their lengths.
 use Rattle.std.proofs.Common.{◌≡◌, ℕ, suc, ◌+◌, ◌≤◌, ◌&&◌, true, false, cond, eqb, List, [], ◌∷◌, ◌++◌, length, refl, sym, ap, arith, ⊎_elim}
 use Rattle.std.proofs.lemmas.Bool.{eq-eqb, cases_Bool, and_parts, eqb-true}
 use Rattle.row_model.specs.declared.Pair.{Pair}
-
-abbrev pub hit : ℕ → ℕ → Pair → ℕ
-hit o i p = cond (eqb p.outer o && eqb p.inner i) 1 0
-
-abbrev pub hits : ℕ → ℕ → List Pair → ℕ
-hits o i [] = 0
-hits o i (p ∷ ps) = hit o i p + hits o i ps
+use Rattle.hash_probe.specs.Hits.{hit, hits}
 
 -- a pair is hit where both its rows are the same
 pub hit_same : (p : Pair) → hit p.outer p.inner p ≡ 1
 hit_same p = rw (eq-eqb p.outer p.outer refl, eq-eqb p.inner p.inner refl) refl
 
-hit_is : (o i : ℕ) (p : Pair) → 1 ≤ hit o i p → (p.outer ≡ o) × (p.inner ≡ i)
+pub hit_is : (o i : ℕ) (p : Pair) → 1 ≤ hit o i p → (p.outer ≡ o) × (p.inner ≡ i)
 hit_is o i p h = ⊎_elim
     (λ (yes : (eqb p.outer o && eqb p.inner i) ≡ true). let a = and_parts (eqb p.outer o) (eqb p.inner i) yes in (eqb-true p.outer o a.0, eqb-true p.inner i a.1))
     (λ (no : (eqb p.outer o && eqb p.inner i) ≡ false). let z : hit o i p ≡ 0 = ap (λ b. cond b 1 0) no in absurd (omega arith))

@@ -7,6 +7,7 @@ pub mod Walking
 pub mod Probing
 pub mod RowsDone
 pub mod Signals
+pub mod Stops
 pub mod Saying
 pub mod Working
 pub mod Attached

@@ -7,7 +7,8 @@ use Rattle.row_model.specs.declared.Pair.{Pair}
 use Rattle.row_model.specs.Table.{Table, key_of, meets, pairs_of, nested_loop}
 use Rattle.join_law.proofs.Rows.{one, one_same, one_other}
 use Rattle.hash_probe.proofs.Comparing.{once_in}
-use Rattle.hash_probe.proofs.Hits.{hit, hits, hits_append}
+use Rattle.hash_probe.specs.Hits.{hit, hits}
+use Rattle.hash_probe.proofs.Hits.{hits_append}
 
 abbrev pub paired : ℕ → ℕ → Pair
 paired o i = record { outer = o; inner = i }
@@ -25,7 +26,7 @@ paired_other k o i (x ∷ xs) ne =
     let a : hit o i (paired k x) ≡ 0 = ap (λ b. cond (b && eqb x i) 1 0) (ne_eqb k o ne) in
     let r = paired_other k o i xs ne in omega arith
 
-times_filter : (p : ℕ → Bool) (i : ℕ) (l : List ℕ) → (p i ≡ true → times i (filter p l) ≡ times i l) × (p i ≡ false → times i (filter p l) ≡ 0)
+pub times_filter : (p : ℕ → Bool) (i : ℕ) (l : List ℕ) → (p i ≡ true → times i (filter p l) ≡ times i l) × (p i ≡ false → times i (filter p l) ≡ 0)
 times_filter p i [] = (λ _. refl, λ _. refl)
 times_filter p i (x ∷ xs) =
     let r = times_filter p i xs in
@@ -44,7 +45,7 @@ times_filter p i (x ∷ xs) =
     (cases_eq x i)
 
 module _ (outer inner : Table) where
-  abbrev meet : ℕ → ℕ → Bool
+  abbrev pub meet : ℕ → ℕ → Bool
   meet o i = meets (key_of outer o) (key_of inner i)
 
   row_other : (k o i : ℕ) → k ≢ o → hits o i (pairs_of outer inner k) ≡ 0
@@ -53,7 +54,7 @@ module _ (outer inner : Table) where
   row_once : (o i : ℕ) → i < length inner.rows → meet o i ≡ true → hits o i (pairs_of outer inner o) ≡ 1
   row_once o i less is = paired_same o o i (filter (meet o) (range_with_len 0 (length inner.rows))) refl ∙ ((times_filter (meet o) i (range_with_len 0 (length inner.rows))).0 is ∙ once_in 0 (length inner.rows) i (omega arith) (omega arith))
 
-  rows_none : (a n o i : ℕ) → (o < a) ⊎ (a + n ≤ o) → hits o i (flat_map (pairs_of outer inner) (range_with_len a n)) ≡ 0
+  pub rows_none : (a n o i : ℕ) → (o < a) ⊎ (a + n ≤ o) → hits o i (flat_map (pairs_of outer inner) (range_with_len a n)) ≡ 0
   rows_none a zero o i out = refl
   rows_none a (suc n) o i out =
       let ne : a ≢ o = λ e. ⊎_elim (λ x. absurd (omega arith)) (λ x. absurd (omega arith)) out in
@@ -61,7 +62,7 @@ module _ (outer inner : Table) where
       let z = row_other a o i ne in
       let r = rows_none (a + 1) n o i (⊎_elim (λ x. inl (omega arith)) (λ x. inr (omega arith)) out) in omega arith
 
-  rows_there : (a n o i : ℕ) → a ≤ o → o < a + n → hits o i (flat_map (pairs_of outer inner) (range_with_len a n)) ≡ hits o i (pairs_of outer inner o)
+  pub rows_there : (a n o i : ℕ) → a ≤ o → o < a + n → hits o i (flat_map (pairs_of outer inner) (range_with_len a n)) ≡ hits o i (pairs_of outer inner o)
   rows_there a zero o i low high = absurd (omega arith)
   rows_there a (suc n) o i low high =
       let s = hits_append o i (pairs_of outer inner a) (flat_map (pairs_of outer inner) (range_with_len (a + 1) n)) in

@@ -1,5 +1,5 @@
 -- What is done with rows adds up.
-use Rattle.std.proofs.Common.{◌≡◌, ℕ, ◌+◌, ◌≤◌, List, [], ◌∷◌, ◌++◌, length, refl, sym, ap, ◌∙◌, subst, arith}
+use Rattle.std.proofs.Common.{◌≡◌, ℕ, ◌+◌, ◌≤◌, List, [], ◌∷◌, ◌++◌, length, refl, sym, ap, ◌∙◌, arith}
 use Rattle.std.proofs.lemmas.List.{append-nil, append_assoc}
 use Rattle.row_model.specs.declared.Pair.{Pair}
 use Rattle.join_law.specs.declared.view.HashView.{HashView}
@@ -24,7 +24,7 @@ meets_append : (j : Join) (later rows : List Probed) → EachMeets j later → E
 meets_append j [] rows a b = b
 meets_append j (q ∷ qs) rows a b = (a.0, meets_append j qs rows a.1 b)
 
-looks_append : (p : HashParty) (later rows : List ℕ) → looks_at p (later ++ rows) ≡ looks_at p later + looks_at p rows
+pub looks_append : (p : HashParty) (later rows : List ℕ) → looks_at p (later ++ rows) ≡ looks_at p later + looks_at p rows
 looks_append p [] rows = omega arith
 looks_append p (r ∷ rs) rows = let i = looks_append p rs rows in omega arith
 

@@ -1,4 +1,5 @@
 pub mod Looks
+pub mod Hits
 pub mod Probing
 pub mod Walks
 pub mod Rows

@@ -1,0 +1,11 @@
+//! The end of a parallel join: from what its workers return to the pairs in order.
+#![tactic(auto)]
+
+mod answer;
+mod last;
+pub mod laws;
+mod order;
+
+pub use answer::{JoinFault, finish};
+pub use last::look_last;
+pub use order::put_in_order;

@@ -1,0 +1,27 @@
+//! Pairs in the order of the nested loop.
+ghost use Rattle.std.specs.Prelude.{◌≡◌};
+ghost use Rattle.std.specs.List.Sorted.{IsNonDecreasingBy, IsPermutation};
+ghost use Rattle.row_model.specs.Table.{nested_loop};
+ghost use Rattle.join_end.specs.Pairs.{SamePairs, code};
+
+use row_model::{Pair, Rows};
+
+// Pairs by their outer row, and those of one outer row by their inner row.
+fn sort(pairs: &mut Vec<Pair>)
+    ensures same { IsPermutation pairs.old.items pairs.new.items }
+    ensures sorted { IsNonDecreasingBy code pairs.new.items }
+{
+    pairs.sort_unstable_by_key(|pair| {
+        u64::from(pair.outer) * 4_294_967_296 + u64::from(pair.inner)
+    });
+}
+
+/// The pairs of the nested loop, in any order, are put into its order, in place.
+pub fn put_in_order(pairs: &mut Vec<Pair>, outer: &Rows, inner: &Rows)
+    requires { SamePairs pairs.old.items (nested_loop outer.now inner.now) }
+    ensures { pairs.new.items ≡ nested_loop outer.now inner.now }
+{
+    // A table tells by its length that it is within its limits.
+    let _few = inner.len();
+    sort(pairs);
+}
