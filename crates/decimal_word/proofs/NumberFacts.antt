@@ -1,9 +1,10 @@
 -- Laws of numbers as words.
-use Rattle.std.proofs.Common.{◌≡◌, ◌∙◌, ℕ, ◌+◌, ◌<◌, ◌≤◌, Bool, true, false, leb, eqb, inl, inr, List, [], ◌∷◌, take, drop, get_or, length, Some, None, refl, sym, ap, arith}
-use Rattle.std.specs.Prelude.{fold, slice_index}
+use Rattle.std.proofs.Common.{◌≡◌, ◌∙◌, ℕ, ◌+◌, ◌<◌, ◌≤◌, Bool, true, false, cond, leb, eqb, inl, inr, List, [], ◌∷◌, take, drop, get_or, length, Some, None, refl, sym, ap, arith}
+use Rattle.std.specs.Prelude.{◌&&◌, fold, nat_le, slice_index}
 use Rattle.std.specs.List.{list_all}
 use Rattle.std.specs.Char.{is_ascii_digit}
 use Rattle.std.proofs.lemmas.Bool.{cases_Bool, le-leb, lt-leb, and_right, ne_eqb}
+use Rattle.std.proofs.lemmas.Bool.Decides.{nat_tests}
 use Rattle.std.proofs.lemmas.List.{take_more, take-append-drop}
 use Rattle.std.proofs.lemmas.List.Sums.{fold-append}
 use Rattle.decimal_word.specs.Numbers.{add_digit, is_decimal, number_of, value_of}
@@ -47,3 +48,14 @@ number_of-below low high word below =
 pub number_of-within : (low high value : ℕ) (word : List ℕ) → is_decimal word ≡ true → value ≡ value_of word → low ≤ value → value ≤ high → number_of low high word ≡ Some value
 unfolding number_of
 number_of-within low high value word decimal is above below = rw (decimal, ← is, le-leb low value above, le-leb value high below) refl
+
+-- a number that a word is lies within the bounds
+pub number_of-range : (low high n : ℕ) (word : List ℕ) → number_of low high word ≡ Some n → (low ≤ n) × (n ≤ high)
+unfolding number_of
+number_of-range low high n word = by_case (is_decimal word) (nat_le low (value_of word)) (nat_le (value_of word) high) refl refl
+  where
+    by_case : (a b c : Bool) → nat_le low (value_of word) ≡ b → nat_le (value_of word) high ≡ c → cond (a && (b && c)) (Some (value_of word)) None ≡ Some n → (low ≤ n) × (n ≤ high)
+    by_case true true true above below is = let same : value_of word ≡ n = cc in (grind (arith, nat_tests, above, same), grind (arith, nat_tests, below, same))
+    by_case true true false above below is = absurd cc
+    by_case true false c above below is = absurd cc
+    by_case false b c above below is = absurd cc

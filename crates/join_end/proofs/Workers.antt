@@ -1,9 +1,11 @@
 -- What a worker promises at its end, by what `build` and `probe` say.
-use Rattle.std.proofs.Common.{◌≡◌, ℕ, ◌+◌, ◌-◌, ◌*◌, ◌≤◌, Bool, true, false, List, [], ◌∷◌, ◌++◌, length, sym, ap, ◌∙◌, subst, arith, inl, inr, Some, None}
+use Rattle.std.proofs.Common.{◌≡◌, ℕ, ◌+◌, ◌-◌, ◌*◌, ◌≤◌, Bool, true, false, ◌||◌, List, [], ◌∷◌, ◌++◌, length, refl, sym, ap, ◌∙◌, subst, arith, inl, inr, Some, None}
 use Rattle.std.proofs.lemmas.List.{append-nil, length-append}
 use Rattle.std.proofs.lemmas.Option.{none-some, same_Some}
 use Rattle.seat_roster.specs.Roster.{listed, times}
 use Rattle.row_model.specs.declared.Pair.{Pair}
+use Rattle.row_model.specs.declared.Side.{Side}
+use Rattle.row_model.specs.declared.Side.TheVariants.{Inner, Outer}
 use Rattle.lw_core.specs.declared.view.View as lock
 use Rattle.wait_core.specs.declared.view.WaitView.{WaitView}
 use Rattle.wait_core.specs.Seating as waits
@@ -22,6 +24,7 @@ use Rattle.join_law.specs.Views.{both_views, first_view, probed_rows}
 use Rattle.join_party.specs.declared.party.HashParty.{HashParty}
 use Rattle.join_party.specs.declared.tables.JoinSeats.{JoinSeats}
 use Rattle.join_party.specs.declared.tables.JoinTables.{JoinTables}
+use Rattle.join_party.specs.Claims.{MayStillEnd}
 use Rattle.join_party.specs.Joins.{join}
 use Rattle.join_party.specs.Workers.{IsAt, IsDrawn}
 use Rattle.hash_build.specs.Builds.{Begins, FoundDone, HasBuilt}
@@ -204,3 +207,12 @@ wait_taken v w number own none = ap (λ (l : List ℕ). length (v.taken ++ l)) (
 
 pub signal_taken : (v w : SigView) (number : ℕ) → w.own ≡ Some number → w.taken ≡ [] → length (signals.took_in v w).taken ≡ length v.taken + 1
 signal_taken v w number own none = ap (λ (l : List ℕ). length (v.taken ++ l)) (λ i. listed (own i) ++ none i) ∙ length-append v.taken (number ∷ [])
+
+-- a seat that took in another may still find an end by an add, where it saw none
+neither : (a b : Bool) → (a || b) ≡ false → a ≡ false
+neither true b none = none
+neither false b none = refl
+
+pub both_end : (v w : HashView) → ((side : Side) → MayStillEnd v side) → (side : Side) → MayStillEnd (both_views v w) side
+both_end v w may Inner = λ none. let one = may Inner (neither v.inner_ended w.inner_ended none) in omega arith
+both_end v w may Outer = λ none. let one = may Outer (neither v.outer_ended w.outer_ended none) in omega arith

@@ -5,7 +5,9 @@ mod answer;
 mod last;
 pub mod laws;
 mod order;
+mod worker;
 
 pub use answer::{JoinFault, finish};
 pub use last::look_last;
 pub use order::put_in_order;
+pub use worker::{Said, take_in, work};

@@ -1,3 +1,4 @@
 pub mod Locks
 pub mod LockScripts
 pub mod LockSketch
+pub mod Passed

@@ -1,14 +1,17 @@
 -- WHAT A SCRIPT DOES on the machine of locks: the words, the lists at home, and one view for each backend, with the call that it is in.
-use Rattle.std.specs.Prelude.{ℕ, ◌-◌, ◌++◌, ◌||◌, nat_lt, Bool, false, cond, List, [], drop, map, slice_index, slice_index_or, slice_set, codes, ◌==◌, Option, None, Some, option_map, option_and_then, if◌then◌else◌}
+use Rattle.std.specs.Prelude.{ℕ, ◌-◌, ◌++◌, ◌||◌, nat_lt, Bool, false, cond, List, [], ◌∷◌, length, drop, map, slice_index, slice_index_or, slice_set, codes, ◌==◌, Option, None, Some, option_map, option_and_then, if◌then◌else◌}
 use Rattle.std.specs.List.{range_with_len}
 use Rattle.std.specs.Str.{bytes_eq}
+use mathlib.Core.Option as maybe
 use Rattle.decimal_word.specs.Numbers.{number_of}
 use Rattle.lw_core.specs.declared.step.LwStep.{LwStep}
 use Rattle.lw_core.specs.declared.view.Size.{Size}
 use Rattle.lw_core.specs.declared.view.View.{View}
 use Rattle.lw_core.specs.declared.view.Waiter.{Waiter}
-use Rattle.lw_core.specs.Words.{word_count}
-use Rattle.lw_core.specs.Machine.{Place, becomes, fresh, left_at, lock_number, mode_in, next, sends_home, takes_list, word_of}
+use Rattle.seat_roster.specs.Totals.{total}
+use Rattle.lw_core.specs.Words.{Waiters, word_count}
+use Rattle.lw_core.specs.Machine.{LwState, Place, as_waiters, becomes, fresh, left_at, lock_number, mode_in, next, sends_home, takes_list, word_of}
+use Rattle.lw_core.specs.Stances.{has_list, stance_of}
 use Rattle.lock_script.specs.declared.locks.Ask.{Ask}
 use Rattle.lock_script.specs.declared.locks.Heard.{Heard}
 use Rattle.lock_script.specs.declared.locks.Heard.TheVariants as heard
@@ -25,12 +28,26 @@ pub record Seat : Type 0 where
   pub waited : Bool
   pub heard : Heard
 
--- a script in the middle. A list that is in hand isn't at home: there is none then
+-- a script in the middle, with the states that were passed, from the opening on. A list that is in hand isn't at home: there is none then
 pub record Script : Type 0 where
   pub size : Size
   pub words : List ℕ
   pub homes : List (List Waiter)
   pub seats : List Seat
+  pub passed : List LwState
+
+-- a lock's slot has its list where no seat has that in hand, and else nothing
+abbrev pub slot_of : List (List Waiter) → List View → ℕ → maybe.Option Waiters
+slot_of homes views l = cond (total (has_list l) (map stance_of views) == 0) (maybe.some (as_waiters (slice_index_or homes l []))) maybe.none
+
+abbrev pub slots_of : List (List Waiter) → List View → List (maybe.Option Waiters)
+slots_of homes views = map (slot_of homes views) (range_with_len 0 (length homes))
+
+abbrev pub views_of : List Seat → List View
+views_of seats = map (λ x. x.view) seats
+
+abbrev pub state_of : List ℕ → List (List Waiter) → List Seat → LwState
+state_of words homes seats = record { words = words; homes = slots_of homes (views_of seats); views = views_of seats }
 
 abbrev pub nobody : Seat
 nobody = record { view = fresh None; ask = None; waited = false; heard = heard.Nothing }
@@ -52,7 +69,7 @@ abbrev pub first_seats : Size → List Seat
 first_seats z = map (λ p. record { view = first_view z p; ask = None; waited = false; heard = heard.Nothing }) (range_with_len 0 z.procs)
 
 abbrev pub opening_script : Size → Script
-opening_script z = record { size = z; words = first_words z; homes = first_homes z; seats = first_seats z }
+opening_script z = record { size = z; words = first_words z; homes = first_homes z; seats = first_seats z; passed = state_of (first_words z) (first_homes z) (first_seats z) ∷ [] }
 
 -- A CALL begins
 abbrev pub begun : Script → ℕ → Seat → Option Ask → Ask → Option Script
@@ -77,19 +94,16 @@ went k n home x = record {
 abbrev pub told : Size → ℕ → Ask → LwStep → ℕ → Seat → List ℕ
 told z p a k n y = step_line z p k n (word_of z p k) (becomes k n) ++ ended y.ask (answer_line p (answer a n (mode_in (ask_lock a) y.view) y.waited y.heard))
 
+abbrev pub moved : Script → List ℕ → List (List Waiter) → List Seat → Script
+moved s words homes seats = record { size = s.size; words = words; homes = homes; seats = seats; passed = s.passed ++ state_of words homes seats ∷ [] }
+
 unfoldable pub turn : Script → ℕ → Seat → Ask → Script × List ℕ
 turn s p x a =
     let k = step_at p a (mode_held (mode_in (ask_lock a) x.view)) x.view.place in
     let n = slice_index s.words (word_of s.size p k) in
     let home = slice_index_or s.homes (lock_number k) [] in
     let y = went k n home x in
-    let t : Script = record {
-      size = s.size;
-      words = slice_set s.words (word_of s.size p k) (becomes k n);
-      homes = slice_set s.homes (lock_number k) (home_after k n x.view.place p home);
-      seats = slice_set s.seats p y;
-    } in
-    (t, told s.size p a k n y)
+    (moved s (slice_set s.words (word_of s.size p k) (becomes k n)) (slice_set s.homes (lock_number k) (home_after k n x.view.place p home)) (slice_set s.seats p y), told s.size p a k n y)
 
 abbrev pub steps : Script → ℕ → Option (Script × List ℕ)
 steps s p = if nat_lt p s.size.procs then option_map (turn s p (seat_at s p)) (seat_at s p).ask else None

@@ -3,6 +3,7 @@
 
 mod calls;
 mod header;
+pub mod laws;
 mod lists;
 mod locks;
 mod places;

@@ -4,3 +4,4 @@ pub mod TextFacts
 pub mod ListFacts
 pub mod Likeness
 pub mod Keeping
+pub mod HeaderFacts

@@ -4,3 +4,4 @@ pub mod SketchFacts
 pub mod Crowds
 pub mod MayStep
 pub mod PassedStates
+pub mod HeaderFacts

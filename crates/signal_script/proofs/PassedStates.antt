@@ -1,16 +1,18 @@
 -- Each state that a script on signals passes meets the rule.
-use Rattle.std.proofs.Common.{◌≡◌, ◌∙◌, ℕ, zero, suc, ◌<◌, ◌≤◌, nat_lt, Bool, true, false, cond, List, [], ◌∷◌, map, length, set, get_or, Option, None, Some, refl, sym, ap, subst, arith, get_or-set_same, get_or-set_other}
+use Rattle.std.proofs.Common.{◌≡◌, ◌∙◌, ℕ, ◌<◌, ◌≤◌, nat_lt, Bool, true, false, cond, List, [], map, length, set, get_or, Option, None, Some, refl, sym, ap, subst, arith, get_or-set_same, get_or-set_other}
 use mathlib.Core.Option as maybe
 use mathlib.Core.Logic.{dite}
 use native.Mathlib.Decide.{ℕ_discrete}
 use lib.ListN.{get_elem?}
-use Rattle.std.specs.Prelude.{All, ◌&&◌, codes, nat_le, option_map, option_and_then, slice_index}
+use Rattle.std.specs.Prelude.{All, codes, option_map, option_and_then, slice_index}
 use Rattle.std.specs.Str.{bytes_eq}
 use Rattle.std.proofs.lemmas.Bool.Decides.{nat_tests}
-use Rattle.std.proofs.lemmas.List.{length-set}
+use Rattle.std.proofs.lemmas.List.{get_or_default, length-set}
 use Rattle.std.proofs.lemmas.List.Elements.{All-push}
 use Rattle.std.proofs.lemmas.List.FromFn.{get_or-map-range_with_len, length-map-range_with_len}
-use Rattle.decimal_word.specs.Numbers.{is_decimal, number_of, value_of}
+use Rattle.atomic_table.proofs.Lists.{at_index, at_map}
+use Rattle.decimal_word.specs.Numbers.{number_of}
+use Rattle.decimal_word.proofs.NumberFacts.{number_of-range}
 use Rattle.signal_core.specs.declared.step.SigStep.{SigStep}
 use Rattle.signal_core.specs.declared.view.About.{About}
 use Rattle.signal_core.specs.declared.view.SigView.{SigView}
@@ -39,28 +41,7 @@ use Rattle.signal_script.proofs.MayStep.{AskSuits, CallSuits, HasFailed, failed_
 abbrev view_of : Seat → SigView
 view_of x = x.view
 
--- LISTS
-elem_of : {A : Type 0} (d : A) (xs : List A) (i : ℕ) → i < length xs → get_elem? xs i ≡ maybe.some (get_or xs i d)
-elem_of d [] i inside = absurd (omega arith)
-elem_of d (x ∷ xs) zero inside = refl
-elem_of d (x ∷ xs) (suc i) inside = elem_of d xs i (omega arith)
-
-elem_map : {A B : Type 0} (f : A → B) (xs : List A) (i : ℕ) (x : A) → get_elem? xs i ≡ maybe.some x → get_elem? (map f xs) i ≡ maybe.some (f x)
-elem_map f [] i x e = absurd (maybe.some-ne-none x (sym e))
-elem_map {B = B} f (y ∷ ys) zero x e = ap (λ (t : _). maybe.some (f t)) (maybe.some-injective y x e)
-elem_map f (y ∷ ys) (suc i) x e = elem_map f ys i x e
-
 -- CALLS
-number_of-most : (low high n : ℕ) (word : List ℕ) → number_of low high word ≡ Some n → n ≤ high
-unfolding number_of
-number_of-most low high n word = by_case (is_decimal word) (nat_le low (value_of word)) (nat_le (value_of word) high) refl
-  where
-    by_case : (a b c : Bool) → nat_le (value_of word) high ≡ c → cond (a && (b && c)) (Some (value_of word)) None ≡ Some n → n ≤ high
-    by_case true true true e is = let same : value_of word ≡ n = cc in grind (arith, nat_tests, e, same)
-    by_case true true false e is = absurd cc
-    by_case true false c e is = absurd cc
-    by_case false b c e is = absurd cc
-
 fits_cond : (b : Bool) (o q : Option Ask) → AskFits o → AskFits q → AskFits (cond b o q)
 fits_cond true o q h k = h
 fits_cond false o q h k = k
@@ -75,7 +56,7 @@ absorb_fits (Some n) = tt
 
 named_fits : (word : List ℕ) (argument : Option (List ℕ)) → AskFits (ask_named word argument)
 named_fits word None = fits_cond (bytes_eq word (codes "join")) (Some Join) _ tt (fits_cond (bytes_eq word (codes "leave")) (Some Leave) _ tt (fits_cond (bytes_eq word (codes "absorb")) (Some (Absorb 0)) None tt tt))
-named_fits word (Some argument) = fits_cond (bytes_eq word (codes "emit")) (option_map Emit (number_of 0 31 argument)) _ (emit_fits (number_of 0 31 argument) (λ n is. number_of-most 0 31 n argument is))
+named_fits word (Some argument) = fits_cond (bytes_eq word (codes "emit")) (option_map Emit (number_of 0 31 argument)) _ (emit_fits (number_of 0 31 argument) (λ n is. (number_of-range 0 31 n argument is).1))
     (fits_cond (bytes_eq word (codes "absorb")) _ None (absorb_fits _) tt)
 
 may_suit : (a : Ask) (t : Option Slot) → may_begin a t ≡ true → AskFits (Some a) → CallSuits a t
@@ -140,8 +121,9 @@ turn_good z s p a below good asks =
     let views : List SigView = map view_of s.seats in
     let st : SigState = state_of s.words s.seats in
     let old : SeatGood p x = good.seats p below in
-    let at : get_elem? views p ≡ maybe.some v = elem_map view_of s.seats p x (elem_of nobody s.seats p (omega (arith, below, good.long))) in
-    let stands : get_elem? (map stance_of views) p ≡ maybe.some (stance_of v) = elem_map stance_of views p v at in
+    let room : p < length s.seats = omega (arith, below, good.long) in
+    let at : get_elem? views p ≡ maybe.some v = at_map view_of s.seats p x (at_index s.seats p x room (get_or_default s.seats p nobody x room)) in
+    let stands : get_elem? (map stance_of views) p ≡ maybe.some (stance_of v) = at_map stance_of views p v at in
     let kinds : (j : ℕ) → 1 ≤ in_hand j v.place → j < 32 = λ j more. kind_below (map stance_of views) p j good.rule.shown (good.rule.bits.held p p j (stance_of v) stands old.own more) in
     let suits : AskSuits (Some a) v.place v.slot = subst (λ (o : Option Ask). AskSuits o v.place v.slot) asks old.ask in
     let may : Allowed anything z k v = permits z p below a v.own v.slot v.place old.own (good.rule.places.fits p (stance_of v) stands) (good.rule.shown.under_way p (stance_of v) stands) old.failed kinds suits in

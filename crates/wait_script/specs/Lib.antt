@@ -1,3 +1,4 @@
 pub mod Waits
 pub mod WaitScripts
 pub mod WaitSketch
+pub mod Passed

@@ -1,7 +1,8 @@
--- WHAT A SCRIPT DOES on the machine of waits: the words, what is at home in the slots, and one view for each backend, with the call that it is in.
-use Rattle.std.specs.Prelude.{ℕ, ◌-◌, ◌++◌, ◌==◌, nat_lt, Bool, true, false, cond, List, [], drop, take, min, map, slice_index, slice_index_or, slice_set, codes, Option, None, Some, option_map, option_and_then, if◌then◌else◌}
+-- WHAT A SCRIPT DOES on the machine of waits: the words, what is at home in the slots, and one view for each backend, with the call that it is in; and the machine's own states that it passes.
+use Rattle.std.specs.Prelude.{ℕ, ◌-◌, ◌++◌, ◌==◌, nat_lt, Bool, true, false, cond, List, [], ◌∷◌, drop, take, min, map, slice_index, slice_index_or, slice_set, codes, Option, None, Some, option_map, option_and_then, if◌then◌else◌}
 use Rattle.std.specs.List.{range_with_len}
 use Rattle.std.specs.Str.{bytes_eq}
+use mathlib.Core.Option as maybe
 use Rattle.decimal_word.specs.Numbers.{number_of}
 use Rattle.wait_core.specs.declared.step.Call.{Call}
 use Rattle.wait_core.specs.declared.step.WaitStep.{WaitStep}
@@ -9,10 +10,10 @@ use Rattle.wait_core.specs.declared.step.WaitStep.TheVariants.{Take, Free}
 use Rattle.wait_core.specs.declared.view.Kept.{Kept}
 use Rattle.wait_core.specs.declared.view.Size.{Size}
 use Rattle.wait_core.specs.declared.view.WaitView.{WaitView}
-use Rattle.wait_core.specs.Words.{client_base, last_phase, most_conditions, slots_in}
+use Rattle.wait_core.specs.Words.{client_base, last_phase, most_conditions, slots_in, spin_at}
 use Rattle.wait_core.specs.Slots.{opening_record}
 use Rattle.wait_core.specs.Seating.{fresh}
-use Rattle.wait_core.specs.Machine.{Place, as_kept, becomes, left_at, next_with, number_of as number_in, slot_number, word_of}
+use Rattle.wait_core.specs.Machine.{Place, WaitState, as_kept, becomes, left_at, next_with, number_of as number_in, slot_number, word_of}
 use Rattle.wait_script.specs.declared.waits.Opening.{Opening}
 use Rattle.wait_script.specs.declared.waits.Told.{Told}
 use Rattle.wait_script.specs.declared.waits.Told.TheVariants as told
@@ -28,12 +29,27 @@ pub record Seat : Type 0 where
   pub ask : Option Call
   pub told : Told
 
--- a script in the middle. A list that is in hand isn't at home: there is none then. A record stays, as its holder found it
+-- a script in the middle, with the states that were passed, from the opening on. A list that is in hand isn't at home: there is none then. A record stays, as its holder found it
 pub record Script : Type 0 where
   pub opening : Opening
   pub words : List ℕ
   pub homes : List Kept
   pub seats : List Seat
+  pub passed : List (WaitState (Unit {0}))
+
+-- THE MACHINE'S STATE. What is at home in the slots, in the order of their spin words: a slot is out where its word is taken
+abbrev pub unless_taken : ℕ → Kept → maybe.Option Kept
+unless_taken spin home = cond (spin == 0) (maybe.some home) maybe.none
+
+-- there are as many words as slots; one that had no word would be at home
+abbrev pub slots_of : List ℕ → List Kept → List (maybe.Option Kept)
+slots_of spins [] = []
+slots_of [] (home ∷ homes) = maybe.some home ∷ slots_of [] homes
+slots_of (spin ∷ spins) (home ∷ homes) = unless_taken spin home ∷ slots_of spins homes
+
+-- the spin words stand last
+abbrev pub state_of : Size → List ℕ → List Kept → List Seat → WaitState (Unit {0})
+state_of z words homes seats = record { words = words; homes = slots_of (drop (spin_at z 0) words) homes; views = map (λ x. x.view) seats }
 
 abbrev pub nobody : Seat
 nobody = record { view = fresh tt None; ask = None; told = told.Nothing }
@@ -66,8 +82,11 @@ first_view z p = record (fresh tt (Some p)) { drawn = cond (p == 0) (z.procs - 1
 abbrev pub first_seats : Size → List Seat
 first_seats z = map (λ p. record { view = first_view z p; ask = None; told = told.Nothing }) (range_with_len 0 z.procs)
 
+abbrev pub opening_state : Opening → WaitState (Unit {0})
+opening_state o = state_of o.size (first_words o.size) (first_homes o) (first_seats o.size)
+
 abbrev pub opening_script : Opening → Script
-opening_script o = record { opening = o; words = first_words o.size; homes = first_homes o; seats = first_seats o.size }
+opening_script o = record { opening = o; words = first_words o.size; homes = first_homes o; seats = first_seats o.size; passed = opening_state o ∷ [] }
 
 -- A CALL begins. One without a step ends at once
 abbrev pub entered : Script → ℕ → Seat → Call → Bool → Script × List ℕ
@@ -97,6 +116,10 @@ went z k n home x = record {
 abbrev pub shown : Size → ℕ → Call → WaitStep → ℕ → Seat → List ℕ
 shown z p a k n y = step_line z p k (word_of z p k) (becomes k n) ++ ended y.ask (answer_line p (answer a n y.told))
 
+-- and the state after it was passed
+abbrev pub moved : Script → List ℕ → List Kept → List Seat → Script
+moved s words homes seats = record { opening = s.opening; words = words; homes = homes; seats = seats; passed = s.passed ++ state_of s.opening.size words homes seats ∷ [] }
+
 unfoldable pub turn : Script → ℕ → Seat → Call → Script × List ℕ
 turn s p x a =
     let own = own_of x in
@@ -104,13 +127,9 @@ turn s p x a =
     let n = slice_index s.words (word_of s.opening.size own k) in
     let home = home_at s.homes (slot_number k) in
     let y = went s.opening.size k n home x in
-    let t : Script = record {
-      opening = s.opening;
-      words = slice_set s.words (word_of s.opening.size own k) (becomes k n);
-      homes = slice_set s.homes (slot_number k) (home_after k n own x.view.place home);
-      seats = slice_set s.seats p y;
-    } in
-    (t, shown s.opening.size own a k n y)
+    let words = slice_set s.words (word_of s.opening.size own k) (becomes k n) in
+    let homes = slice_set s.homes (slot_number k) (home_after k n own x.view.place home) in
+    (moved s words homes (slice_set s.seats p y), shown s.opening.size own a k n y)
 
 abbrev pub steps : Script → ℕ → Option (Script × List ℕ)
 steps s p = if nat_lt p s.opening.size.procs then option_map (turn s p (seat_at s p)) (seat_at s p).ask else None

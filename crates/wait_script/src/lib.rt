@@ -4,6 +4,7 @@
 mod calls;
 mod header;
 mod homes;
+pub mod laws;
 mod lists;
 mod places;
 mod spots;
