@@ -99,7 +99,13 @@ fn leave_late<'r, R: Wait>(rt: &R, tables: &JoinTables<'r>, seats: &mut JoinSeat
     ensures lock { seats.new.lock ≡ seats.old.lock }
     ensures signal { HasLeft seats.old.signal.view seats.new.signal.view }
 {
-    leave_slot(rt, &tables.signals, &mut seats.signal, &tables.waits, &mut seats.wait);
+    leave_slot(
+        rt,
+        &tables.signals,
+        &mut seats.signal,
+        &tables.waits,
+        &mut seats.wait,
+    );
 }
 
 /// Takes in the seats of a worker that has gone: what it did, this seat has done.

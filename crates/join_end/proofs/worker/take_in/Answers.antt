@@ -1,4 +1,4 @@
-use Rattle.std.proofs.Common.{ap, sym, subst}
+use Rattle.std.proofs.Common.{sym, subst}
 use Rattle.row_model.specs.declared.Side.{Side}
 use Rattle.wait_core.specs.declared.view.WaitView.{WaitView}
 use Rattle.join_law.specs.declared.view.HashView.{HashView}
