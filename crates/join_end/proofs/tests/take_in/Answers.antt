@@ -1,0 +1,10 @@
+use Rattle.std.proofs.Common.{sym, subst}
+use Rattle.row_model.specs.declared.Side.{Side}
+use Rattle.wait_core.specs.declared.view.WaitView.{WaitView}
+use Rattle.join_law.specs.declared.view.HashView.{HashView}
+use Rattle.join_party.specs.Claims.{MayStillEnd}
+use Rattle.join_end.proofs.Gathers.{may_still_end}
+use Rattle.join_end.proofs.tests.take_in.Goals as goal
+
+pub invariant_of-leader : goal.invariant_of-leader
+invariant_of-leader c = record { ends = subst (λ (y : WaitView HashView). (side : Side) → MayStillEnd y.client side) (sym c.join.ensures.view) (may_still_end c.args.leader.now.wait.view.client c.args.worker.wait.view.client c.args.leader.now.ends) }
