@@ -71,11 +71,7 @@ fn open<'r, R: Abort>(
     opened
 }
 
-fn draw<'r, R: Abort>(
-    rt: &R,
-    tables: &JoinTables<'r>,
-    leader: &mut JoinSeats<'r>,
-) -> JoinSeats<'r>
+fn draw<'r, R: Abort>(rt: &R, tables: &JoinTables<'r>, leader: &mut JoinSeats<'r>) -> JoinSeats<'r>
     requires table { IsAt tables.now leader.old }
     requires first { IsNumbered leader.old 0 0 0 }
     requires idle { leader.old.wait.view.place ≡ [] }
@@ -213,13 +209,8 @@ fn join_alone<R: Abort + Wait, L: Ledger>(
 fn one_worker_joins_two_tables(rt: HostRuntime) -> Result<(), Fail> {
     let inner = rows_of(rt.alloc(), ["a", "b", "", "a"].as_slice())?;
     let outer = rows_of(rt.alloc(), ["b", "a", "", "c"].as_slice())?;
-    let Ok(pairs) = join_alone::<HostRuntime, Brand>(
-        &rt,
-        Blank::new(1),
-        rt.alloc(),
-        &inner,
-        &outer,
-    ) else {
+    let Ok(pairs) = join_alone::<HostRuntime, Brand>(&rt, Blank::new(1), rt.alloc(), &inner, &outer)
+    else {
         panic!(rt; "no pairs")
     };
     let expected = [

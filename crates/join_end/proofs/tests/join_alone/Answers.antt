@@ -1,4 +1,4 @@
-use Rattle.std.proofs.Common.{◌≡◌, ℕ, ◌+◌, ◌-◌, List, [], length, Bool, false, None, Some, Option, Bor, refl, sym, ap, ◌∙◌, subst, arith}
+use Rattle.std.proofs.Common.{◌≡◌, ℕ, ◌+◌, ◌-◌, List, [], length, Bool, false, None, Some, Option, sym, ap, ◌∙◌, subst}
 use Rattle.row_model.specs.declared.Pair.{Pair}
 use Rattle.row_model.specs.Table.{Table, nested_loop}
 use Rattle.wait_core.specs.declared.view.WaitView.{WaitView}
@@ -6,11 +6,10 @@ use Rattle.wait_core.specs.Seating as waits
 use Rattle.signal_core.specs.declared.view.SigView.{SigView}
 use Rattle.signal_core.specs.Seating as signals
 use Rattle.join_law.specs.declared.view.HashView.{HashView}
-use Rattle.join_law.specs.Views.{both_views, first_view}
+use Rattle.join_law.specs.Views.{first_view}
 use Rattle.join_party.specs.declared.party.HashParty.{HashParty}
 use Rattle.join_end.specs.Pairs.{SamePairs}
 use Rattle.join_end.specs.Works.{Work, both_work, work_of}
-use Rattle.join_end.specs.Workers.{IsNew}
 use Rattle.join_end.proofs.Gathers.{done_both}
 use Rattle.join_end.proofs.Whole.{whole}
 use Rattle.join_end.proofs.Workers.{drawn_new, nothing_did, signal_taken, wait_taken}

@@ -1,4 +1,4 @@
-use Rattle.std.proofs.Common.{List, ℕ, subst}
+use Rattle.std.proofs.Common.{List, subst}
 use Rattle.row_model.specs.declared.Pair.{Pair}
 use Rattle.hash_probe.specs.Probes.{Probes}
 use Rattle.join_end.proofs.Workers.{built_done}
