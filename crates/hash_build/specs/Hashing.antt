@@ -4,7 +4,7 @@ use Rattle.row_model.specs.declared.Route.{Route}
 use Rattle.row_model.specs.declared.Side.{Side}
 use Rattle.row_model.specs.declared.Side.TheVariants.{Inner, Outer}
 use Rattle.lw_core.specs.declared.view.View as lock
-use Rattle.lw_core.specs.Machine.{mode_in}
+use Rattle.lw_core.specs.Machine.{HoldsNothing, mode_in}
 use Rattle.wait_core.specs.declared.view.WaitView.{WaitView}
 use Rattle.join_law.specs.declared.view.HashView.{HashView}
 use Rattle.join_law.specs.declared.view.Known.{Known}
@@ -62,6 +62,10 @@ pub record ClaimsNone (v w : HashView) : Type 0 where
 abbrev pub IsFree : lock.View → Type 0
 IsFree v = (v.place ≡ []) × (mode_in 0 v ≡ None)
 
+-- it holds no lock that it didn't hold
+abbrev pub HoldsNoMore : lock.View → lock.View → Type 0
+HoldsNoMore v w = HoldsNothing v → HoldsNothing w
+
 -- the numbers of a seat, and the numbers drawn and taken over for others, are the same
 pub record SameNumbers (v w : lock.View) : Type 0 where
   pub own : w.own ≡ v.own
@@ -80,6 +84,7 @@ pub record Reached (v w : JoinSeats) (looks_before looks_after : ℕ) : Type 0 w
   pub hand : w.wait.view.client.hand ≡ []
   pub only : HashesOnly v.wait.view.client w.wait.view.client
   pub free : IsFree w.lock.view
+  pub holds : HoldsNoMore v.lock.view w.lock.view
   pub numbers : SameNumbers v.lock.view w.lock.view × SameWaitNumbers v.wait.view w.wait.view
   pub signal : w.signal ≡ v.signal
   pub reports : w.lock.view.grants + v.wait.view.client.chunks ≡ v.lock.view.grants + w.wait.view.client.chunks

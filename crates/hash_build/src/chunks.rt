@@ -7,7 +7,7 @@ ghost use Rattle.join_law.specs.Views.{stretch};
 ghost use Rattle.join_party.specs.Claims.{chunk_of, count_of, first_of, has_ended};
 ghost use Rattle.join_party.specs.Joins.{join};
 ghost use Rattle.join_party.specs.Workers.{IsAt};
-ghost use Rattle.hash_build.specs.Hashing.{ClaimsNone, HashesOnly, IsFree, KnowsForGood, Reached, SameNumbers};
+ghost use Rattle.hash_build.specs.Hashing.{ClaimsNone, HashesOnly, HoldsNoMore, IsFree, KnowsForGood, Reached, SameNumbers};
 
 use crate::report::report;
 use crate::rows::hash_row;
@@ -106,6 +106,7 @@ fn tell<'r, R: Wait>(
     ensures signal { seats.new.signal ≡ seats.old.signal }
     ensures view { seats.new.wait.view ≡ seats.old.wait.view }
     ensures free { IsFree seats.new.lock.view × SameNumbers seats.old.lock.view seats.new.lock.view }
+    ensures holds { HoldsNoMore seats.old.lock.view seats.new.lock.view }
     ensures grants { seats.new.lock.view.grants ≡ seats.old.lock.view.grants + chunk_of side }
 {
     match side {

@@ -128,7 +128,12 @@ fn each_row_is_placed<'r, R: Abort>(
     requires idle { seats.wait.view.place ≡ [] }
 {
     let found = find_places(rt, alloc, &tables.waits, seats);
-    let Built::Ready { buckets, batches, .. } = built else {
+    let Built::Ready {
+        buckets,
+        batches,
+        ..
+    } = built
+    else {
         return false;
     };
     let expected = expect_places::<R, Brand>(
@@ -186,7 +191,14 @@ fn one_worker_places_each_row_once(rt: HostRuntime) -> Result<(), Fail> {
         };
         let (built, placed) = build_alone(&rt, rt.alloc(), &inner, &outer, plan);
         let elected = true;
-        assert!(rt; built == Built::Ready { buckets, batches, elected });
+        assert!(rt;
+            built
+                == Built::Ready {
+                    buckets,
+                    batches,
+                    elected
+                }
+        );
         assert!(rt; placed);
     }
     Ok(())

@@ -1,5 +1,5 @@
 -- One row is probed or given up.
-use Rattle.std.proofs.Common.{◌≡◌, ◌⊎◌, ℕ, suc, ◌+◌, ◌-◌, ◌<◌, ◌≤◌, Bool, cond, eq-eqb, List, [], ◌∷◌, ◌++◌, length, map, refl, sym, ap, ◌∙◌, subst, arith, inl, inr, Some, None, true, false}
+use Rattle.std.proofs.Common.{◌≡◌, ℕ, suc, ◌+◌, ◌≤◌, Bool, cond, eq-eqb, List, [], ◌∷◌, ◌++◌, length, refl, sym, ap, ◌∙◌, subst, arith, inl, inr, None, true}
 use Rattle.std.proofs.lemmas.Bool.{true≢false}
 use Rattle.std.proofs.lemmas.List.{append-nil, length-append, length-map}
 use Rattle.row_model.specs.declared.Pair.{Pair}
@@ -21,10 +21,10 @@ use Rattle.join_party.specs.Joins.{join}
 use Rattle.hash_probe.specs.declared.Probed.{Probed}
 use Rattle.hash_probe.specs.Loads.{ProbesNone}
 use Rattle.hash_probe.specs.Looks.{walk_of}
-use Rattle.hash_probe.specs.Marks.{CarriesOver, CountsRow, IsUnmarked, PassesLimit, Says, SaysOver, counted, most_pairs}
-use Rattle.hash_probe.specs.Probing.{GivesUpRow, ProbesRow, pairs_of_row, with_given, with_probed}
-use Rattle.hash_probe.specs.Rows.{DoesRows, ProbesOnly, looks_at}
-use Rattle.hash_probe.specs.Signals.{GoesOn, swaps}
+use Rattle.hash_probe.specs.Marks.{CountsRow, IsUnmarked, Says, SaysOver}
+use Rattle.hash_probe.specs.Probing.{ProbesRow, pairs_of_row, with_given, with_probed}
+use Rattle.hash_probe.specs.Rows.{DoesRows, ProbesOnly}
+use Rattle.hash_probe.specs.Signals.{GoesOn, STOP, swaps}
 use Rattle.hash_probe.specs.Working.{HandlesRow, StaysAttached, Worked}
 use Rattle.hash_probe.proofs.RowsDone.{does_none, does_on, moved_only, stays_none}
 use Rattle.hash_probe.proofs.Saying.{says_on}
@@ -53,6 +53,7 @@ module _ (p : HashParty) (procs : ℕ) where
 
   says_counted : (m n : Probed) (q : row.Probed) (count added : ℕ) (v w : SigView) → IsUnmarked m → count ≤ length (nested_loop p.outer.now p.inner.now) → added ≤ length q.pairs → CountsRow procs count added m n v w → Says p procs (q ∷ []) [] m n v w
   says_counted m n q count added v w none all many (inl c) = record {
+    heard = λ still. (none.1, ap (λ (x : SigView). times STOP x.absorbed) c.1);
     count = ap (λ (x : Probed). x.probed) c.0;
     on = subst (GoesOn v) (sym c.1) (stays_on v);
     over = says_over m n q count added v w none.0 all many (inl c);
@@ -60,6 +61,7 @@ module _ (p : HashParty) (procs : ℕ) where
     unmarked = λ still. (refl, none);
   }
   says_counted m n q count added v w none all many (inr c) = record {
+    heard = λ still. (none.1, ap (times STOP) c.1.unheard);
     count = ap (λ (x : Probed). x.probed) c.0;
     on = tells_on procs count v w c.1.tells;
     over = says_over m n q count added v w none.0 all many (inr c);
@@ -69,7 +71,7 @@ module _ (p : HashParty) (procs : ℕ) where
 
   -- what is said of a row that was given up, where there is a mark
   says_given : (m n : Probed) (r : ℕ) (v : SigView) → n.probed ≡ m.probed → n.over ≡ m.over → n.stopped ≡ m.stopped → (IsUnmarked n → ⊥) → Says p procs [] (r ∷ []) m n v v
-  says_given m n r v count over stopped marked = record { count = omega arith; on = stays_on v; over = inl (over, refl); stopped = inl stopped; unmarked = λ none. absurd (marked none) }
+  says_given m n r v count over stopped marked = record { count = omega arith; on = stays_on v; over = inl (over, refl); stopped = inl stopped; unmarked = λ none. absurd (marked none); heard = λ none. (sym stopped ∙ none, refl) }
 
   -- what was done with a row that was probed, and with one that was given up
   does_probed : (v w : WaitView HashView) (r count : ℕ) (before after : List Pair) (k l : ℕ) → (d : ProbesRow (join p) v w r before after count) → l ≤ k + walk_of p.outer.now p.inner.now p.buckets r → DoesRows p (d.probed ∷ []) [] v.client w.client before after k l

@@ -1,5 +1,5 @@
 -- How an inner row that is taken out of its store is inserted.
-use Rattle.std.proofs.Common.{◌≡◌, ℕ, ◌+◌, ◌^◌, ◌<◌, ◌≤◌, List, length, get_or, refl, sym, ap, ◌∙◌, subst, arith, inr, Some}
+use Rattle.std.proofs.Common.{◌≡◌, ℕ, ◌^◌, ◌<◌, ◌≤◌, List, length, get_or, sym, ap, ◌∙◌, subst, inr, Some}
 use Rattle.std.specs.Int.{IsPowerOfTwo}
 use Rattle.std.proofs.lemmas.Option.{same_Some}
 use Rattle.row_model.specs.declared.Route.{Route}
@@ -17,13 +17,13 @@ use Rattle.join_law.specs.Layout.{Join, SizesOf, sizes_of}
 use Rattle.join_law.specs.Machine.{At, step_op}
 use Rattle.join_law.specs.Phases.{known_at, known_word, batch_bar, LOAD}
 use Rattle.join_law.specs.Routes.{batch_of}
-use Rattle.join_law.specs.Stands.{SizesFit, Stands}
+use Rattle.join_law.specs.Stands.{Stands}
 use Rattle.join_law.specs.Views.{View}
 use Rattle.join_law.proofs.Callers.{with_there}
 use Rattle.join_law.proofs.Learned.{hand_row, hash_found}
 use Rattle.join_party.specs.declared.party.HashParty.{HashParty}
 use Rattle.join_party.specs.Joins.{join}
-use Rattle.shared_tuples.specs.Tuples.{IsReady, Leads, MayInsert, Routed}
+use Rattle.shared_tuples.specs.Tuples.{IsReady, MayInsert}
 use Rattle.shared_tuples.proofs.Tuples.{routed}
 use Rattle.hash_probe.specs.declared.HashTable.{HashTable}
 use Rattle.hash_probe.specs.Loads.{MayLoad}

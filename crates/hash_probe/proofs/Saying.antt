@@ -1,14 +1,15 @@
 -- What a worker has to say adds up.
-use Rattle.std.proofs.Common.{◌≡◌, ℕ, ◌+◌, List, [], ◌∷◌, ◌++◌, length, refl, sym, ap, ◌∙◌, arith, inl, inr, Some, None, Option}
+use Rattle.std.proofs.Common.{◌≡◌, ℕ, List, [], ◌∷◌, ◌++◌, refl, sym, ap, ◌∙◌, arith, inl, inr, Some, Option}
 use Rattle.std.proofs.lemmas.List.{append_assoc, length-append}
 use Rattle.std.proofs.lemmas.Option.{none-some}
+use Rattle.seat_roster.specs.Roster.{times}
 use Rattle.signal_core.specs.declared.view.SigView.{SigView}
 use Rattle.join_law.specs.declared.view.Probed as row
 use Rattle.join_party.specs.declared.party.HashParty.{HashParty}
 use Rattle.hash_probe.specs.declared.Probed.{Probed}
 use Rattle.hash_probe.specs.Marks.{CarriesOver, Says, SaysOver, SaysStopped}
 use Rattle.generation_barrier.specs.Waiting.{HasLeft}
-use Rattle.hash_probe.specs.Signals.{GoesOn, StopsAt}
+use Rattle.hash_probe.specs.Signals.{GoesOn, STOP, StopsAt}
 use Rattle.hash_probe.proofs.Signals.{Looked, goes_on, left_on, stays_on, stops_after, stops_before, tells_after, tells_before}
 
 module _ (p : HashParty) (procs : ℕ) where
@@ -61,19 +62,23 @@ module _ (p : HashParty) (procs : ℕ) where
             let b = y.unmarked none in
             let a = x.unmarked b.1 in
             (ap (λ (l : List ℕ). l ++ given) b.0 ∙ a.0, a.1);
+        heard = λ none.
+            let b = y.heard none in
+            let a = x.heard b.0 in
+            (a.0, b.1 ∙ a.1);
       }
 
   -- where nothing was done there is nothing more to say
   pub says_none : (m : Probed) (v : SigView) → Says p procs [] [] m m v v
-  says_none m v = record { count = omega arith; on = stays_on v; over = inl (refl, refl); stopped = inl refl; unmarked = λ none. (refl, none) }
+  says_none m v = record { count = omega arith; on = stays_on v; over = inl (refl, refl); stopped = inl refl; unmarked = λ none. (refl, none); heard = λ none. (none, refl) }
 
   -- where it heard nothing, and where it absorbed STOP
-  pub says_looked : (m : Probed) (v w : SigView) → Looked v w → Says p procs [] [] m m v w
-  says_looked m v w l = record { count = omega arith; on = l.on; over = inl (refl, l.silent); stopped = inl refl; unmarked = λ none. (refl, none) }
+  pub says_looked : (m : Probed) (v w : SigView) → Looked v w → times STOP w.absorbed ≡ times STOP v.absorbed → Says p procs [] [] m m v w
+  says_looked m v w l unheard = record { count = omega arith; on = l.on; over = inl (refl, l.silent); stopped = inl refl; unmarked = λ none. (refl, none); heard = λ none. (none, unheard) }
 
   pub says_stopped : (m : Probed) (g : ℕ) (v w : SigView) → Looked v w → StopsAt g v w → Says p procs [] [] m (record m { stopped = Some g }) v w
-  says_stopped m g v w l s = record { count = omega arith; on = l.on; over = inl (refl, l.silent); stopped = inr (g, refl, s); unmarked = λ none. absurd (none-some g (sym none.1)) }
+  says_stopped m g v w l s = record { count = omega arith; on = l.on; over = inl (refl, l.silent); stopped = inr (g, refl, s); unmarked = λ none. absurd (none-some g (sym none.1)); heard = λ none. absurd (none-some g (sym none)) }
 
   -- where it left
   pub says_left : (m : Probed) (v w : SigView) → HasLeft v w → Says p procs [] [] m m v w
-  says_left m v w l = let g = left_on v w l in record { count = omega arith; on = g.0; over = inl (refl, g.1); stopped = inl refl; unmarked = λ none. (refl, none) }
+  says_left m v w l = let g = left_on v w l in record { count = omega arith; on = g.0; over = inl (refl, g.1); stopped = inl refl; unmarked = λ none. (refl, none); heard = λ none. (none, ap (λ (y : SigView). times STOP y.absorbed) l.view) }

@@ -1,6 +1,14 @@
 -- What a worker does at the table of signals adds up.
-use Rattle.std.proofs.Common.{◌≡◌, ◌⊎◌, ℕ, suc, ◌+◌, ◌≤◌, Bool, true, false, List, [], ◌∷◌, ◌++◌, refl, sym, ap, ◌∙◌, subst, arith, inl, inr, ⊎_elim, None, Option, Result, Ok, Err, MatchResult}
+use Rattle.std.proofs.Common.{◌≡◌, ◌⊎◌, ℕ, zero, suc, ◌+◌, ◌≤◌, Bool, true, false, ◌||◌, cond, eqb, List, [], ◌∷◌, ◌++◌, refl, sym, ap, ◌∙◌, subst, arith, inl, inr, ⊎_elim, None, Option, Result, Ok, Err, MatchResult}
+use Rattle.std.specs.Int.{bit_at}
+use Rattle.std.proofs.lemmas.Bool.{ne_eqb, true≢false}
 use Rattle.std.proofs.lemmas.List.{append-nil, append_assoc}
+use mathlib.Core.Logic.{dite}
+use native.Mathlib.Decide.{dec_le}
+use Rattle.seat_roster.specs.Roster.{times}
+use Rattle.seat_roster.proofs.Numbers.{times_append}
+use Rattle.signal_core.specs.Machine.{kinds_below, takes}
+use Rattle.signal_core.proofs.AbsorbedKept.{kinds_count}
 use Rattle.proc_table.specs.declared.Worn.{Worn}
 use Rattle.signal_core.specs.declared.view.Emission.{Emission}
 use Rattle.signal_core.specs.declared.view.Made.{Made}
@@ -11,7 +19,7 @@ use Rattle.proc_signal.specs.Signals.{IsEmitted, IsWorn}
 use Rattle.generation_barrier.specs.declared.outcome.Absorb.{Absorb}
 use Rattle.generation_barrier.specs.declared.outcome.Absorb.TheVariants.{Idle, Published, Kept}
 use Rattle.generation_barrier.specs.Absorbing as absorbing
-use Rattle.generation_barrier.specs.Absorbing.{Answers, IsIdle, IsKept, IsPublishedNow}
+use Rattle.generation_barrier.specs.Absorbing.{Answers, Asks, FailsAs, IsIdle, IsKept, IsPublishedNow}
 use Rattle.generation_barrier.specs.Waiting.{HasLeft}
 use Rattle.join_party.specs.Guards.{stop_shows}
 use Rattle.hash_probe.specs.declared.marks.StopOrder.{StopOrder}
@@ -126,6 +134,55 @@ module _ {A : Type 0} (meets : A → ℕ → Bool → A → Type 0) (shows : ℕ
   looked_once (Published h) i = looked_published h i
   looked_once (Kept failed) i = looked_kept failed i
 
+-- who knows of no STOP was asked for none, and none failed
+or_true : (b : Bool) → (b || true) ≡ true
+or_true true = refl
+or_true false = refl
+
+or_false : (b : Bool) → (b || false) ≡ b
+or_false true = refl
+or_false false = refl
+
+fails_not : (k : ℕ) (answer : Bool) (before after : ℕ) → answer ≡ true → FailsAs k answer before after → after ≡ before
+fails_not k true before after taken fails = fails
+fails_not k false before after other fails = absurd (true≢false (sym other))
+
+none_asked : (found n : ℕ) (a : StopOrder) (failed : ℕ) (b : StopOrder) → Asks takes_order found n a failed b → (failed ≡ 0) × (b.stop ≡ false → 1 ≤ n → bit_at found 0 ≡ 0)
+none_asked found zero a failed b asked = (asked.0, λ none some. absurd (omega arith))
+none_asked found (suc zero) a failed b asked =
+    let i = none_asked found zero a asked.1 asked.0 asked.2 in
+    ⊎_elim
+    (λ kept. (kept.2 ∙ i.0, λ none some. kept.0))
+    (λ one. (fails_not zero one.1.0 asked.1 failed one.1.1.0 one.1.2 ∙ i.0, λ none some. absurd (true≢false (sym (one.1.1.1 ∙ or_true asked.0.stop) ∙ none))))
+    asked.3
+none_asked found (suc (suc n)) a failed b asked =
+    let i = none_asked found (suc n) a asked.1 asked.0 asked.2 in
+    ⊎_elim
+    (λ kept. (kept.2 ∙ i.0, λ none some. i.1 (ap (λ (s : StopOrder). s.stop) (sym kept.1) ∙ none) (omega arith)))
+    (λ one. (fails_not (suc n) one.1.0 asked.1 failed one.1.1.0 one.1.2 ∙ i.0, λ none some. i.1 (sym (one.1.1.1 ∙ (ap (λ (x : Bool). asked.0.stop || x) (ne_eqb (suc n) STOP (λ e. absurd (omega arith))) ∙ or_false asked.0.stop)) ∙ none) (omega arith)))
+    asked.3
+
+-- a kind that wasn't in the mask isn't absorbed
+cond_most : (b : Bool) (x : ℕ) → cond b x 0 ≤ x
+cond_most true x = omega arith
+cond_most false x = omega arith
+
+no_kinds : (found : ℕ) → bit_at found 0 ≡ 0 → times STOP (kinds_below 32 (takes found 0)) ≡ 0
+no_kinds found none = dite (dec_le 1 (times STOP (kinds_below 32 (takes found 0))))
+    (λ some. let one = kinds_count STOP 32 (takes found 0) some in let most = cond_most (eqb (bit_at 0 0) 0) (bit_at found 0) in absurd (omega arith))
+    (λ zero. omega arith)
+
+pub unheard_else : (v w : SigView) (b : StopOrder) (r : Absorb) → ((g : ℕ) → r ≡ Published g → ⊥) → Answers takes_order stop_shows v (order false) r w b → times STOP w.absorbed ≡ times STOP v.absorbed
+unheard_else v w b (Idle g) else i = ⊎_elim (λ none. ap (λ (y : SigView). times STOP y.absorbed) none) (λ old. ap (λ (y : SigView). times STOP y.absorbed) old.3) i.read
+unheard_else v w b (Published g) else i = absurd (else g refl)
+unheard_else v w b (Kept failed) else i = let none = (none_asked i.found 32 (order false) failed b i.asked).0 in let some = i.some in absurd (omega arith)
+
+pub unheard_published : (g : ℕ) (v w : SigView) (b : StopOrder) → IsPublishedNow takes_order stop_shows g v (order false) w b → b.stop ≡ false → times STOP w.absorbed ≡ times STOP v.absorbed
+unheard_published g v w b i none =
+    let bit = (none_asked i.found 32 (order false) 0 b i.asked).1 none (omega arith) in
+    let all : times STOP w.absorbed ≡ times STOP v.absorbed + times STOP (kinds_below 32 (takes i.found 0)) = ap (λ (y : SigView). times STOP y.absorbed) i.view ∙ times_append STOP v.absorbed (kinds_below 32 (takes i.found 0)) in
+    let kinds = no_kinds i.found bit in omega arith
+
 -- STOP was absorbed just now
 pub stops_now : (g : ℕ) (v w : SigView) (b : StopOrder) → IsPublishedNow takes_order stop_shows g v (order false) w b → b.stop ≡ true → StopsAt g v w
 stops_now g v w b absorbs is = record {
@@ -158,6 +215,10 @@ emits_on procs count v w (inr n) = emitted_on v w _ v.emissions [] n.1.view (sym
 pub tells_now : (procs count : ℕ) (v w : SigView) (result : Result ℕ Worn) → MatchResult result (λ g. IsEmitted procs STOP count v g w) (λ e. IsWorn STOP count v e.at w) → TellsOver procs count v w
 tells_now procs count v w (Ok g) e = record { from = v; to = w; before = stays_on v; none_before = refl; emits = inl (g, e); after = stays_on w; none_after = refl }
 tells_now procs count v w (Err n) e = record { from = v; to = w; before = stays_on v; none_before = refl; emits = inr (n.at, e); after = stays_on w; none_after = refl }
+
+pub told_unheard : (procs count : ℕ) (v w : SigView) (result : Result ℕ Worn) → MatchResult result (λ g. IsEmitted procs STOP count v g w) (λ e. IsWorn STOP count v e.at w) → w.absorbed ≡ v.absorbed
+told_unheard procs count v w (Ok g) e = ap (λ (y : SigView). y.absorbed) e.view
+told_unheard procs count v w (Err n) e = ap (λ (y : SigView). y.absorbed) e.view
 
 pub tells_on : (procs count : ℕ) (v w : SigView) → TellsOver procs count v w → GoesOn v w
 tells_on procs count v w t = goes_on v t.to w (goes_on v t.from t.to t.before (emits_on procs count t.from t.to t.emits)) t.after

@@ -1,5 +1,5 @@
 -- Who was stopped absorbed STOP.
-use Rattle.std.proofs.Common.{◌≡◌, ℕ, zero, suc, ◌+◌, ◌≤◌, ◌||◌, eqb, eqb-true, cond, Bool, true, false, List, [], ◌∷◌, ◌++◌, refl, sym, ap, ◌∙◌, subst, arith, ⊎_elim}
+use Rattle.std.proofs.Common.{◌≡◌, ℕ, zero, suc, ◌+◌, ◌≤◌, ◌||◌, eqb, eqb-true, cond, Bool, true, false, [], ◌∷◌, ◌++◌, refl, sym, ap, ◌∙◌, subst, arith, ⊎_elim}
 use Rattle.std.specs.Int.{bit_at}
 use Rattle.std.proofs.lemmas.Bool.{cases_Bool, false≢true}
 use Rattle.std.proofs.lemmas.Nat.Bits.{bit_at-zero}
@@ -10,7 +10,7 @@ use Rattle.signal_core.specs.Machine.{kinds_below, takes}
 use Rattle.generation_barrier.specs.Absorbing.{Asks, FailsAs}
 use Rattle.join_law.proofs.Rows.{one, one_same}
 use Rattle.hash_probe.specs.declared.marks.StopOrder.{StopOrder}
-use Rattle.hash_probe.specs.Signals.{GoesOn, STOP, StopsAt, order, takes_order}
+use Rattle.hash_probe.specs.Signals.{STOP, StopsAt, order, takes_order}
 
 module _ (found : ℕ) where
   -- the kind n, if it was found, is among those taken

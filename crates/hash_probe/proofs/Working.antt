@@ -1,12 +1,11 @@
 -- How far a worker came adds up.
-use Rattle.std.proofs.Common.{◌≡◌, ℕ, ◌+◌, ◌≤◌, List, [], ◌++◌, length, refl, sym, ap, ◌∙◌, subst, arith}
+use Rattle.std.proofs.Common.{◌≡◌, ℕ, ◌+◌, List, [], ◌++◌, length, refl, sym, ap, ◌∙◌, subst, arith}
 use Rattle.std.proofs.lemmas.List.{length-append}
 use Rattle.row_model.specs.declared.Pair.{Pair}
 use Rattle.wait_core.specs.declared.view.WaitView.{WaitView}
 use Rattle.signal_core.specs.declared.seat.SigSeat.{SigSeat}
 use Rattle.signal_core.specs.declared.view.SigView.{SigView}
 use Rattle.join_law.specs.declared.view.HashView.{HashView}
-use Rattle.join_law.specs.declared.view.Probed as row
 use Rattle.join_party.specs.declared.tables.JoinSeats.{JoinSeats}
 use Rattle.join_party.specs.declared.tables.JoinTables.{JoinTables}
 use Rattle.generation_barrier.specs.Waiting.{HasLeft}

@@ -1,5 +1,5 @@
 -- When a worker may probe, and what it did then.
-use Rattle.std.specs.Prelude.{◌≡◌, ℕ, true, false, List, [], ◌∷◌, None}
+use Rattle.std.specs.Prelude.{ℕ, false, List, [], ◌∷◌, None}
 use Rattle.row_model.specs.declared.Pair.{Pair}
 use Rattle.join_law.specs.Phases.{build, RUN}
 use Rattle.join_party.specs.declared.tables.JoinSeats.{JoinSeats}

@@ -1,5 +1,5 @@
 -- What a worker does at the table of signals while it probes.
-use Rattle.std.specs.Prelude.{◌≡◌, ◌⊎◌, ℕ, ◌+◌, ◌==◌, ◌||◌, Bool, true, false, List, [], ◌∷◌, ◌++◌, Some}
+use Rattle.std.specs.Prelude.{◌≡◌, ◌⊎◌, ℕ, ◌+◌, ◌==◌, ◌||◌, Bool, true, false, List, [], ◌∷◌, ◌++◌}
 use Rattle.signal_core.specs.declared.step.SigStep.{SigStep}
 use Rattle.signal_core.specs.declared.step.SigStep.TheVariants.{Pswap}
 use Rattle.signal_core.specs.declared.view.Emission.{Emission}

@@ -102,6 +102,7 @@ pub(crate) fn tell_over<'r>(tables: &JoinTables<'r>, seats: &mut JoinSeats<'r>, 
     ensures table { (seats.new.signal.table_id ≡ seats.old.signal.table_id) × (seats.new.wait ≡ seats.old.wait) × (seats.new.lock ≡ seats.old.lock) }
     ensures slot { (seats.new.signal.view.place ≡ None) × IsJoined seats.new.signal.view.slot }
     ensures tells { TellsOver tables.now.signals.procs count seats.old.signal.view seats.new.signal.view }
+    ensures unheard { seats.new.signal.view.absorbed ≡ seats.old.signal.view.absorbed }
 {
     let _generation = emit(&tables.signals, &mut seats.signal, STOP, count);
 }

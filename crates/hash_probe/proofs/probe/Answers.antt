@@ -1,4 +1,4 @@
-use Rattle.std.proofs.Common.{◌≡◌, refl, sym, ap, subst}
+use Rattle.std.proofs.Common.{sym, ap, subst}
 use Rattle.wait_core.specs.declared.view.WaitView.{WaitView}
 use Rattle.join_law.specs.declared.view.HashView.{HashView}
 use Rattle.hash_probe.specs.Loads.{ProbesNone}

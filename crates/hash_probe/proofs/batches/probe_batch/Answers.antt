@@ -1,11 +1,10 @@
-use Rattle.std.proofs.Common.{◌≡◌, refl, sym, ap, ◌∙◌, subst}
+use Rattle.std.proofs.Common.{◌≡◌, sym, ap, ◌∙◌, subst}
 use Rattle.wait_core.specs.declared.view.WaitView.{WaitView}
 use Rattle.join_law.specs.declared.view.HashView.{HashView}
-use Rattle.hash_build.specs.Hashing.{SameWaitNumbers}
 use Rattle.hash_probe.specs.Loads.{ProbesNone}
 use Rattle.hash_probe.specs.Rows.{found_done}
-use Rattle.hash_probe.proofs.RowsDone.{done_none, stays_none}
-use Rattle.hash_probe.proofs.Working.{numbers_on, worked_none, worked_on}
+use Rattle.hash_probe.proofs.RowsDone.{done_none}
+use Rattle.hash_probe.proofs.Working.{numbers_on, worked_none}
 use Rattle.hash_probe.proofs.batches.probe_batch.Goals as goal
 
 pub returns-then-phase-ge-SCAN-clause-worked : goal.returns-then-phase-ge-SCAN-clause-worked

@@ -1,4 +1,4 @@
-use Rattle.std.proofs.Common.{◌<◌, ℕ, arith}
+use Rattle.std.proofs.Common.{◌<◌, arith}
 use Rattle.join_law.specs.Layout.{rows}
 use Rattle.join_party.specs.Joins.{join}
 use Rattle.hash_probe.proofs.Loading.{inner_found}
