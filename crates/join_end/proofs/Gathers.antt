@@ -6,6 +6,9 @@ use Rattle.seat_roster.specs.Roster.{times}
 use Rattle.seat_roster.proofs.Numbers.{times_append}
 use Rattle.wait_core.specs.Parties.{joined, phase_of}
 use Rattle.wait_core.specs.Seating.{party_of}
+use Rattle.row_model.specs.declared.Side.{Side}
+use Rattle.row_model.specs.declared.Side.TheVariants.{Inner, Outer}
+use Rattle.join_law.specs.declared.view.HashView.{HashView}
 use Rattle.join_law.specs.declared.view.Known.{Known}
 use Rattle.join_law.specs.declared.view.Probed.{Probed}
 use Rattle.join_law.specs.Layout.{Join, sizes_of}
@@ -13,6 +16,7 @@ use Rattle.join_law.specs.Phases.{With, build, known_at, batch_growth, bucket_gr
 use Rattle.join_law.specs.Quiet.{Quiet}
 use Rattle.join_law.specs.Views.{View, both_known, both_views, for_good, probed_rows}
 use Rattle.join_law.proofs.Seats.{rows_both}
+use Rattle.join_party.specs.Claims.{MayStillEnd}
 use Rattle.join_party.specs.declared.party.HashParty.{HashParty}
 use Rattle.hash_probe.specs.Hits.{hits}
 use Rattle.hash_probe.specs.Probing.{pairs_of_row}
@@ -65,6 +69,15 @@ quiet_ended j v free q = inr (by_known v.client.known refl (subst (λ (a : List 
     by_known None is h = absurd h
     by_known (Some k) is h = by_settled k k.settled refl is h
 
+neither : (a b : Bool) → (a || b) ≡ false → (a ≡ false) × (b ≡ false)
+neither true b is = absurd (false≢true (sym is))
+neither false b is = (refl, is)
+
+-- a seat that may still find an end by an add may do so with another
+pub may_still_end : (v w : HashView) → ((side : Side) → MayStillEnd v side) → (side : Side) → MayStillEnd (both_views v w) side
+may_still_end v w may Inner = λ none. let n = neither v.inner_ended w.inner_ended none in let m = may Inner n.0 in omega arith
+may_still_end v w may Outer = λ none. let n = neither v.outer_ended w.outer_ended none in let m = may Outer n.0 in omega arith
+
 -- What two promise adds up
 found_both : (inner o i : ℕ) (ps qs : List Probed) → hits o i (pairs_found inner (ps ++ qs)) ≡ hits o i (pairs_found inner ps) + hits o i (pairs_found inner qs)
 found_both inner o i [] qs = omega arith
@@ -80,10 +93,6 @@ none_of (Some c) b is = absurd (none-some c (sym is))
 some_of : (a b : Option ℕ) (c : ℕ) → either_over a b ≡ Some c → (a ≡ Some c) ⊎ (b ≡ Some c)
 some_of None b c is = inr is
 some_of (Some d) b c is = inl is
-
-neither : (a b : Bool) → (a || b) ≡ false → (a ≡ false) × (b ≡ false)
-neither true b is = absurd (false≢true (sym is))
-neither false b is = (refl, is)
 
 module _ (p : HashParty) where
   looks_both : (v w : Work) → looks_at p (probed_rows (both_work v w).wait.client.probed) + looks_at p (both_work v w).wait.client.given

@@ -6,7 +6,10 @@ use Rattle.seat_roster.specs.Roster.{listed, times}
 use Rattle.row_model.specs.declared.Pair.{Pair}
 use Rattle.row_model.specs.declared.Side.{Side}
 use Rattle.row_model.specs.declared.Side.TheVariants.{Inner, Outer}
+use Rattle.lw_core.specs.declared.view.Hold.{Hold}
 use Rattle.lw_core.specs.declared.view.View as lock
+use Rattle.lw_core.specs.Machine.{HoldsNothing, mode_in}
+use Rattle.lw_core.proofs.Touches.{fresh_hold}
 use Rattle.wait_core.specs.declared.view.WaitView.{WaitView}
 use Rattle.wait_core.specs.Seating as waits
 use Rattle.wait_core.specs.Seating.{fresh, party_of}
@@ -51,28 +54,8 @@ drawn_new old new s d = record {
   taken = ap (λ (y : SigView). y.taken) d.worker_signal;
 }
 
-pub drawn_begins : (old new s u : JoinSeats) → IsDrawn old new s → u.wait.view ≡ s.wait.view → u.lock.view ≡ s.lock.view → Begins u
-drawn_begins old new s u d wait at = record {
-  idle = (ap (λ (y : WaitView HashView). y.place) w, ap (λ (y : WaitView HashView). y.target) w);
-  free = (ap (λ (y : lock.View). y.place) l, ap (λ (y : lock.View). Rattle.lw_core.specs.Machine.mode_in 0 y) l);
-  away = ap (λ (y : WaitView HashView). y.attached) w;
-  hand = ap (λ (y : WaitView HashView). y.client.hand) w;
-}
-  where
-    w : u.wait.view ≡ fresh first_view (Some (old.wait.view.drawn + 1))
-    w = wait ∙ d.worker_wait
-
-    l : u.lock.view ≡ Rattle.lw_core.specs.Machine.fresh (Some (old.lock.view.drawn + 1))
-    l = at ∙ d.worker_lock
-
--- the slot of signals was joined, and nothing else was done
-pub slot_joined : (s u : JoinSeats) (m n p g : ℕ) → IsNew s m n → u.wait.view ≡ s.wait.view → IsJoinedSlot p g s.signal.view u.signal.view → IsNew u m n
-slot_joined s u m n p g new wait slot = record {
-  wait = wait ∙ new.wait;
-  silent = (ap (λ (y : SigView). y.emissions) slot.view ∙ new.silent.0, ap (λ (y : SigView). y.absorbed) slot.view ∙ new.silent.1);
-  own = ap (λ (y : SigView). y.own) slot.view ∙ new.own;
-  taken = ap (λ (y : SigView). y.taken) slot.view ∙ new.taken;
-}
+pub drawn_free : (old new s : JoinSeats) → IsDrawn old new s → HoldsNothing s.lock.view
+drawn_free old new s d l = ap (λ (y : lock.View). mode_in l y) d.worker_lock ∙ ap (λ (h : Hold). h.mode) (fresh_hold (Some (old.lock.view.drawn + 1)) l)
 
 -- what is true of a leader that took in nobody
 pub nothing_did : (p : HashParty) (s : JoinSeats) → s.wait.view.client ≡ first_view → s.signal.view.emissions ≡ [] → Did p (work_of s [] None false 0)
@@ -120,21 +103,7 @@ late_numbers s u w m n before after new late same left = record {
   signal = (ap (λ (y : SigView). y.own) left.view ∙ (ap (λ (y : SigSeat). y.view.own) late.others.1 ∙ new.own), ap (λ (y : SigView). y.taken) left.view ∙ (ap (λ (y : SigSeat). y.view.taken) late.others.1 ∙ new.taken));
 }
 
--- A WORKER THAT BUILT may probe
-pub built_ready : (t : JoinTables) (s u : JoinSeats) (buckets batches : ℕ) (elected : Bool) (before after : ℕ) → IsAt t u → (s.signal.view.place ≡ None) × IsJoined s.signal.view.slot → HasBuilt (join t.waits.party) s u buckets batches elected before after
-    → AsBuilt t (Ready buckets batches elected) u
-built_ready t s u buckets batches elected before after at slot b = record {
-  awake = record {
-    at = at;
-    idle = b.idle;
-    slot = (ap (λ (y : SigSeat). y.view.place) b.reached.signal ∙ slot.0, subst (λ (y : SigSeat). IsJoined y.view.slot) (sym b.reached.signal) slot.1);
-  };
-  attached = b.attached;
-  hand = b.reached.hand;
-  known = record { word = b.word; is = b.known; buckets = b.sizes.0; batches = b.sizes.1; fit = b.fit };
-}
-
--- and probed
+-- A WORKER THAT BUILT and probed
 module _ (t : JoinTables) (s u w : JoinSeats) (m n buckets batches : ℕ) (elected : Bool) (said : Probed) (pairs : List Pair) (first second last : ℕ)
     (new : IsNew s m n) (b : HasBuilt (join t.waits.party) s u buckets batches elected first second) (f : Probes t u w said [] pairs second last) where
   abbrev p : HashParty
@@ -207,12 +176,3 @@ wait_taken v w number own none = ap (λ (l : List ℕ). length (v.taken ++ l)) (
 
 pub signal_taken : (v w : SigView) (number : ℕ) → w.own ≡ Some number → w.taken ≡ [] → length (signals.took_in v w).taken ≡ length v.taken + 1
 signal_taken v w number own none = ap (λ (l : List ℕ). length (v.taken ++ l)) (λ i. listed (own i) ++ none i) ∙ length-append v.taken (number ∷ [])
-
--- a seat that took in another may still find an end by an add, where it saw none
-neither : (a b : Bool) → (a || b) ≡ false → a ≡ false
-neither true b none = none
-neither false b none = refl
-
-pub both_end : (v w : HashView) → ((side : Side) → MayStillEnd v side) → (side : Side) → MayStillEnd (both_views v w) side
-both_end v w may Inner = λ none. let one = may Inner (neither v.inner_ended w.inner_ended none) in omega arith
-both_end v w may Outer = λ none. let one = may Outer (neither v.outer_ended w.outer_ended none) in omega arith

@@ -5,6 +5,8 @@ mod answer;
 mod last;
 pub mod laws;
 mod order;
+#[cfg(test)]
+mod tests;
 mod worker;
 
 pub use answer::{JoinFault, finish};
