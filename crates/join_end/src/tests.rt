@@ -20,13 +20,6 @@ use std::sync::Wait;
 use std::sync::ledger::{Blank, Ledger};
 use std::test::Fail;
 
-// What a worker says at its end.
-#[derive(Clone, Copy)]
-struct Marks {
-    over: Option<u64>,
-    short: bool,
-}
-
 fn rows_of(alloc: Global, keys: &[&str]) -> Result<Rows, RecordFault> {
     let mut builder = RowsBuilder::new(alloc, b"key")?;
     builder.push_field(b"key")?;

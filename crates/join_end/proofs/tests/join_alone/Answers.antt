@@ -16,7 +16,7 @@ use Rattle.join_end.proofs.Workers.{drawn_free, drawn_new, nothing_did, signal_t
 use Rattle.join_end.proofs.tests.join_alone.Goals as goal
 
 pub work-said-requires-clause-new : goal.work-said-requires-clause-new
-work-said-requires-clause-new g c =
+work-said-requires-clause-new g c κs within =
     let leader = c.open-tables.result.1 in
     let m : ℕ = leader.wait.view.drawn + 1 in
     let n : ℕ = leader.signal.view.drawn + 1 in
