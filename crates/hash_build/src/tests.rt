@@ -116,7 +116,7 @@ fn build_uncounted<'r, G: Gate, R: Wait, L: Ledger>(
     build(rt, tables, seats, worker, gate, &mut steps)
 }
 
-// Whether each row is found once in its place, and each row without a key in none.
+// Whether one worker is elected, each row is found once in its place, and each row without a key in none.
 fn each_row_is_placed<'r, R: Abort>(
     rt: &R,
     alloc: Global,
@@ -131,7 +131,7 @@ fn each_row_is_placed<'r, R: Abort>(
     let Built::Ready {
         buckets,
         batches,
-        ..
+        elected: true,
     } = built
     else {
         return false;

@@ -112,9 +112,37 @@ fn draw_eight<'t, 'r, G: Gate, R: Abort>(
     (first, second)
 }
 
-// What both answer, where they answer alike.
-fn same(first: Option<Built>, second: Option<Built>) -> Option<Built> {
-    if first == second { first } else { None }
+// What both answer, where they answer the same sizes and not both are elected.
+fn both(first: Option<Built>, second: Option<Built>) -> Option<Built> {
+    let Some(
+        Built::Ready {
+            buckets,
+            batches,
+            elected,
+        },
+    ) = first
+    else {
+        return None;
+    };
+    let Some(
+        Built::Ready {
+            buckets: more_buckets,
+            batches: more_batches,
+            elected: other,
+        },
+    ) = second
+    else {
+        return None;
+    };
+    if buckets != more_buckets || batches != more_batches || elected && other {
+        return None;
+    }
+    let elected = elected || other;
+    Some(Built::Ready {
+        buckets,
+        batches,
+        elected,
+    })
 }
 
 fn run_two<G: Gate, R: Threads + Wait + Sync>(rt: &R, workers: Two<'_, '_, G>) -> Option<Built> {
@@ -124,7 +152,7 @@ fn run_two<G: Gate, R: Threads + Wait + Sync>(rt: &R, workers: Two<'_, '_, G>) -
         move || -> Option<Built> { work(rt, first) },
         move || -> Option<Built> { work(rt, second) },
     );
-    same(one, other)
+    both(one, other)
 }
 
 fn run_four<G: Gate, R: Threads + Wait + Sync>(rt: &R, workers: Four<'_, '_, G>) -> Option<Built> {
@@ -134,7 +162,7 @@ fn run_four<G: Gate, R: Threads + Wait + Sync>(rt: &R, workers: Four<'_, '_, G>)
         move || -> Option<Built> { run_two(rt, first) },
         move || -> Option<Built> { run_two(rt, second) },
     );
-    same(one, other)
+    both(one, other)
 }
 
 fn run_eight<G: Gate, R: Threads + Wait + Sync>(
@@ -147,7 +175,7 @@ fn run_eight<G: Gate, R: Threads + Wait + Sync>(
         move || -> Option<Built> { run_four(rt, first) },
         move || -> Option<Built> { run_four(rt, second) },
     );
-    same(one, other)
+    both(one, other)
 }
 
 fn plan_of(workers: u32) -> Plan {
