@@ -1,9 +1,11 @@
 //! Builds and probes the hash table of a join of 262,144 inner and 262,144 outer rows, whose keys are
 //! unique, so that what this costs can be measured. Its first argument says how far it goes, `build` or `probe`, and
-//! its second how many workers do so, 1 or 4. By any others it only opens the tables.
+//! its second how many workers do so, 1 or 4; `batches` makes eight batches of the rows. By no first argument it
+//! only opens the tables.
 #![tactic(auto)]
 
-ghost use Rattle.std.specs.Prelude.{◌≡◌, ◌<◌, ◌+◌, [], None};
+ghost use Rattle.std.specs.Prelude.{◌≡◌, ◌<◌, ◌≤◌, [], None};
+ghost use Rattle.std.specs.Int.{IsPowerOfTwo};
 ghost use Rattle.join_party.specs.Workers.{IsAt, IsNumbered};
 ghost use Rattle.hash_build.specs.Builds.{Begins};
 
@@ -38,6 +40,7 @@ enum Stage {
 struct Run {
     stage: Stage,
     workers: u32,
+    batches: bool,
 }
 
 // A worker that hasn't begun yet.
@@ -69,6 +72,7 @@ fn read_run<R: Env + AllocGlobal>(rt: &R) -> Run {
     let mut run = Run {
         stage: Stage::Open,
         workers: 1,
+        batches: false,
     };
     let Ok(words) = env::args(rt) else {
         return run;
@@ -78,6 +82,7 @@ fn read_run<R: Env + AllocGlobal>(rt: &R) -> Run {
             "build" => run.stage = Stage::Build,
             "probe" => run.stage = Stage::Probe,
             "4" => run.workers = 4,
+            "batches" => run.batches = true,
             _ => {}
         }
     }
@@ -132,15 +137,7 @@ fn work<R: Wait>(rt: &R, alloc: Global, worker: Worker<'_, '_>, stage: Stage) ->
         mut seats,
         number,
     } = worker;
-    let found = take_part::<R, Brand>(
-        rt,
-        Blank::new(1),
-        alloc,
-        tables,
-        &mut seats,
-        number,
-        stage,
-    );
+    let found = take_part::<R, Brand>(rt, Blank::new(1), alloc, tables, &mut seats, number, stage);
     mem::forget(seats);
     found
 }
@@ -214,13 +211,26 @@ fn work_together<'r, R: Threads + Wait + Sync>(
     Some(pairs)
 }
 
+// One batch, or eight with half as many chains each as rows.
+fn plan_of(batches: bool) -> Plan
+    ensures workers { result.workers ≡ 4 }
+    ensures buckets { IsPowerOfTwo result.buckets × (result.buckets ≤ 262144) }
+{
+    let (buckets, mem) = if batches {
+        (65_536, 32_768)
+    } else {
+        (262_144, ROWS)
+    };
+    Plan {
+        workers: 4,
+        buckets,
+        mem,
+    }
+}
+
 // Whether the run found as many pairs as there are keys, if it looks for any.
 fn measure<R: Threads + Wait + Sync>(rt: &R, alloc: Global, rows: &Rows, run: Run) -> bool {
-    let plan = Plan {
-        workers: 4,
-        buckets: 262_144,
-        mem: 262_144,
-    };
+    let plan = plan_of(run.batches);
     let Ok((tables, mut leader)) = open_tables(alloc, rows, rows, plan) else {
         return false;
     };
