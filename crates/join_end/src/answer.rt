@@ -7,6 +7,7 @@ ghost use Rattle.join_end.specs.Works.{IsOver};
 ghost use Rattle.join_end.specs.Answers.{Refuses};
 
 use crate::order::put_in_order;
+use proc_table::NoMemory;
 use row_model::{Pair, Rows};
 
 /// Why a join has no pairs to give.
@@ -15,6 +16,16 @@ pub enum JoinFault {
     /// There are more than 4,194,304 pairs; `counted` of them were counted.
     TooMany { counted: u64 },
     NoMemory,
+}
+
+impl From<NoMemory> for JoinFault {
+    ghost use Rattle.join_end.specs.declared.answer.JoinFault.TheVariants as fault;
+
+    ghost from_gives = { λ _ given. given ≡ fault.NoMemory };
+
+    fn from(_error: NoMemory) -> JoinFault {
+        JoinFault::NoMemory
+    }
 }
 
 /// What a join answers, from the pairs that all its workers found, the count that one of them carried past

@@ -7,8 +7,8 @@ use Rattle.std.proofs.lemmas.List.Concat.{flat_map-append}
 use Rattle.std.proofs.lemmas.List.FromFn.{map-range_with_len_more, length-range_with_len, get_or-range_with_len}
 use Rattle.row_model.specs.declared.Pair.{Pair}
 use Rattle.row_model.specs.Table.{Table, meets, key_of, pairs_of, nested_loop}
-use Rattle.join_engine.specs.declared.JoinFault.{JoinFault}
-use Rattle.join_engine.specs.declared.JoinFault.TheVariants as fault
+use Rattle.join_end.specs.declared.answer.JoinFault.{JoinFault}
+use Rattle.join_end.specs.declared.answer.JoinFault.TheVariants as fault
 use Rattle.join_engine.specs.Limit.{PairsShow}
 
 pub range_more : (n : ℕ) → range_with_len 0 (n + 1) ≡ range_with_len 0 n ++ n ∷ []

@@ -1,7 +1,7 @@
 -- How many pairs a join may have, and what a fault of a join shows of them.
 use Rattle.std.specs.Prelude.{ℕ, ◌<◌, ◌≤◌}
-use Rattle.join_engine.specs.declared.JoinFault.{JoinFault}
-use Rattle.join_engine.specs.declared.JoinFault.TheVariants as fault
+use Rattle.join_end.specs.declared.answer.JoinFault.{JoinFault}
+use Rattle.join_end.specs.declared.answer.JoinFault.TheVariants as fault
 
 -- the most pairs of a join
 abbrev pub pair_limit : ℕ
