@@ -1,13 +1,16 @@
 -- Laws of the generator, of the tables that it makes, and of the total of their pairs.
-use Rattle.std.proofs.Common.{◌≡◌, ◌∙◌, ℕ, zero, suc, ◌+◌, ◌≤◌, List, [], ◌∷◌, ◌++◌, length, map, take, drop, codes, None, refl, sym, ap, zero-add, arith}
+use Rattle.std.proofs.Common.{◌≡◌, ◌∙◌, ℕ, zero, suc, ◌+◌, ◌≤◌, List, [], ◌∷◌, ◌++◌, length, map, take, drop, codes, None, Option, refl, sym, ap, subst, zero-add, arith}
 use Rattle.std.specs.Prelude.{decimal, fold}
-use Rattle.std.proofs.lemmas.List.{map-append}
+use Rattle.std.proofs.lemmas.List.{length-map, map-append}
 use Rattle.row_model.specs.declared.Pair.{Pair}
 use Rattle.row_model.specs.Table.{Table, nested_loop}
 use Rattle.row_model.specs.Form.{header_fault, key_fault, fault_so_far, form_fault, row_limit, rows_fault, table_of}
 use Rattle.row_model.specs.Layout.{Building}
 use Rattle.row_model.proofs.BuildFacts.{row_fault-none}
-use Rattle.pg_sync.specs.Make.{add_pair, drawn_key, drawn_table, made_inner, made_outer, made_pairs, made_text, next_state, state_after, states_after}
+use Rattle.pg_sync.specs.declared.status.Status.{Status}
+use Rattle.pg_sync.specs.Answer.{JoinShows}
+use Rattle.pg_sync.specs.Tallies.{made_sizes, table_sizes}
+use Rattle.pg_sync.specs.Make.{add_pair, drawn_key, drawn_table, made_inner, made_outer, made_pairs, made_text, next_state, pairs_text, state_after, states_after}
 
 -- the generator's states, cut in two
 states-split : (x m n : ℕ) → states_after x (m + n) ≡ states_after x m ++ states_after (state_after x m) n
@@ -111,7 +114,21 @@ made_pairs-is rows start state inner outer first last next =
     let o : outer ≡ made_outer rows start = next ∙ ap (λ (x : ℕ). drawn_table rows (states_after x rows)) last ∙ made_outer-is rows start in
     rw (i, o) refl
 
-pub made_text-is : (rows start : ℕ) (pairs : List Pair) (bytes : List ℕ) → pairs ≡ made_pairs rows start
-    → bytes ≡ codes "rows " ++ decimal (length pairs) ++ codes "\ntotal " ++ decimal (fold add_pair 0 pairs) ++ codes "\n" → bytes ≡ made_text rows start
+pub made_text-is : (rows start : ℕ) (pairs : List Pair) → pairs ≡ made_pairs rows start → pairs_text pairs ≡ made_text rows start
 unfolding made_text
-made_text-is rows start pairs bytes all is = rw all at is
+made_text-is rows start pairs all = ap pairs_text all
+
+-- what is shown of the pairs that were made
+pub made-shows : (rows start : ℕ) (pairs : List Pair) (old new : Option (List ℕ)) (faults faults' : ℕ) (result : Status) → pairs ≡ made_pairs rows start
+    → JoinShows (length pairs) (pairs_text pairs) old new faults faults' result → JoinShows (length (made_pairs rows start)) (made_text rows start) old new faults faults' result
+made-shows rows start pairs old new f g result all =
+    subst (λ (t : ℕ × List ℕ). JoinShows t.0 t.1 old new f g result) (λ i. (length (all i), made_text-is rows start pairs all i))
+
+-- the sizes of the join of two tables of drawn keys
+pub made_sizes-is : (rows start workers state : ℕ) (inner outer : Table) → inner ≡ drawn_table rows (states_after start rows) → state ≡ state_after start rows → outer ≡ drawn_table rows (states_after state rows)
+    → table_sizes inner outer workers ≡ made_sizes rows start workers
+made_sizes-is rows start workers state inner outer first on second =
+    let all = made_pairs-is rows start state inner outer first on second in
+    let i : length inner.rows ≡ rows = ap (λ (t : Table). length t.rows) first ∙ (length-map (states_after start rows) (λ x. drawn_key rows x ∷ []) ∙ length-states start rows) in
+    let o : length outer.rows ≡ rows = ap (λ (t : Table). length t.rows) second ∙ (length-map (states_after state rows) (λ x. drawn_key rows x ∷ []) ∙ length-states state rows) in
+    λ k. record { inner = i k; outer = o k; workers = workers; pairs = length (all k) }

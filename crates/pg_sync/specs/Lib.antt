@@ -3,3 +3,4 @@ pub mod Schedule
 pub mod Answer
 pub mod Line
 pub mod Make
+pub mod Tallies

@@ -43,9 +43,11 @@ abbrev pub add_pair : ℕ → Pair → ℕ
 add_pair total p = (total * 31 + (p.outer + 1) + (p.inner + 1)) % 2 ^ 32
 
 -- how many pairs there are, and their total, taken in their order
+abbrev pub pairs_text : List Pair → List ℕ
+pairs_text pairs = codes "rows " ++ decimal (length pairs) ++ codes "\ntotal " ++ decimal (fold add_pair 0 pairs) ++ codes "\n"
+
 unfoldable pub made_text : ℕ → ℕ → List ℕ
-made_text rows start =
-    codes "rows " ++ decimal (length (made_pairs rows start)) ++ codes "\ntotal " ++ decimal (fold add_pair 0 (made_pairs rows start)) ++ codes "\n"
+made_text rows start = pairs_text (made_pairs rows start)
 
 -- the answer where no write fails
 abbrev pub made_answer : ℕ → ℕ → Status

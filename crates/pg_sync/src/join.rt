@@ -7,16 +7,18 @@ ghost use Rattle.row_model.specs.Table.{nested_loop};
 ghost use Rattle.row_model.specs.declared.Side.TheVariants as side;
 ghost use Rattle.pg_sync.specs.declared.status.Status.TheVariants as status;
 ghost use Rattle.pg_sync.specs.Answer.{AllIsThere, BytesShow, CountsShow, Decided, JoinShows, Leaves, NoInputFailed, NoneFailed, counts_of, due_text, refusal_of};
+ghost use Rattle.pg_sync.specs.Tallies.{AreOf, TallyShows, table_sizes};
 ghost use Rattle.pg_sync.specs.Words.{IsPlan, job_at};
 
+use crate::counters::counters;
 use crate::status::Status;
 use crate::words::JoinWords;
 use csv_tables::{Inputs, LoadFault, PrintFault, Sink, load, print};
-use join_engine::{JoinFault, join_rows};
+use join_engine::{JoinFault, Tally, join_rows};
 use proc_table::{Gate, Steps};
 use row_model::{Plan, Rows, Side};
 use std::alloc::Global;
-use std::marker::{Brand, Sync};
+use std::marker::{Brand, Send, Sync};
 use std::sync::Wait;
 use std::sync::ledger::{Blank, Ledger};
 use std::thread::Threads;
@@ -35,7 +37,7 @@ pub(crate) fn refusal(side: Side, fault: LoadFault) -> Status
 }
 
 // Joins two tables, and prints the pairs.
-fn print_join<R: Threads + Wait + Sync, S: Sink, G: Gate, L: Ledger>(
+fn print_join<R: Threads + Wait + Sync, S: Sink, G: Gate, T: Tally, L: Ledger + Send>(
     blank: Blank,
     rt: &R,
     alloc: Global,
@@ -44,6 +46,7 @@ fn print_join<R: Threads + Wait + Sync, S: Sink, G: Gate, L: Ledger>(
     plan: Plan,
     out: &mut S,
     gate: &G,
+    tally: &mut T,
 ) -> Status
     requires name { blank.name ≡ L.name }
     requires parts { blank.parts ≡ L.parts }
@@ -52,14 +55,19 @@ fn print_join<R: Threads + Wait + Sync, S: Sink, G: Gate, L: Ledger>(
     ensures joins { JoinShows (length (nested_loop outer.now inner.now)) (joined_text outer.now inner.now) (S.taken out.old) (S.taken out.new) (S.faults out.old) (S.faults out.new) result }
     ensures capacity { S.capacity out.new ≡ S.capacity out.old }
     ensures full { result ≡ status.WriteFault → IsFull (S.taken out.new) (S.capacity out.new) }
+    ensures tally { TallyShows (λ sizes. sizes ≡ table_sizes inner.now outer.now plan.workers) (T.joins tally.old) (T.last tally.old) (T.joins tally.new) (T.last tally.new) result }
 {
-    let mut steps = [Steps::<L>::new(blank)];
-    let joined = match join_rows(rt, alloc, inner, outer, plan, gate, &mut steps) {
+    let Ok(mut looks) = counters::<L>(blank, alloc, plan.workers) else {
+        return Status::NoMemory;
+    };
+    let joined = match join_rows(rt, alloc, inner, outer, plan, gate, looks.as_mut_slice()) {
         Ok(joined) => joined,
         Err(JoinFault::TooMany { .. }) => return Status::TooManyResults,
         Err(JoinFault::NoMemory) => return Status::NoMemory,
     };
-    match print(alloc, outer, inner, &joined.pairs, out) {
+    tally.joined(&joined);
+    let pairs = joined.close();
+    match print(alloc, outer, inner, &pairs, out) {
         Ok(()) => Status::Done,
         Err(PrintFault::Write) => Status::WriteFault,
         Err(PrintFault::NoMemory) => Status::NoMemory,
@@ -67,13 +75,14 @@ fn print_join<R: Threads + Wait + Sync, S: Sink, G: Gate, L: Ledger>(
 }
 
 // Joins the inputs of these names by their keys, and writes the text of the join.
-fn join_inputs<R: Threads + Wait + Sync, I: Inputs, S: Sink, G: Gate>(
+fn join_inputs<R: Threads + Wait + Sync, I: Inputs, S: Sink, G: Gate, T: Tally>(
     rt: &R,
     alloc: Global,
     job: &JoinWords<'_>,
     inputs: &mut I,
     out: &mut S,
     gate: &G,
+    tally: &mut T,
 ) -> Status
     requires inner { I.may_open inputs.old side.Inner job.now.inner.now }
     requires outer { I.may_open inputs.old side.Outer job.now.outer.now }
@@ -84,6 +93,7 @@ fn join_inputs<R: Threads + Wait + Sync, I: Inputs, S: Sink, G: Gate>(
     ensures calm { I.is_steady inputs.old → IsSome (I.held inputs.old job.now.inner.now) → IsSome (I.held inputs.old job.now.outer.now) → NoInputFailed result }
     ensures capacity { S.capacity out.new ≡ S.capacity out.old }
     ensures full { result ≡ status.WriteFault → IsFull (S.taken out.new) (S.capacity out.new) }
+    ensures tally { TallyShows (AreOf (job_at job.now) (I.held inputs.old job.now.inner.now) (I.held inputs.old job.now.outer.now)) (T.joins tally.old) (T.last tally.old) (T.joins tally.new) (T.last tally.new) result }
 {
     let inner = match load(alloc, inputs, Side::Inner, job.inner, job.inner_key) {
         Ok(rows) => rows,
@@ -93,7 +103,7 @@ fn join_inputs<R: Threads + Wait + Sync, I: Inputs, S: Sink, G: Gate>(
         Ok(rows) => rows,
         Err(fault) => return refusal(Side::Outer, fault),
     };
-    print_join::<R, S, G, Brand>(
+    print_join::<R, S, G, T, Brand>(
         Blank::new(1),
         rt,
         alloc,
@@ -102,17 +112,19 @@ fn join_inputs<R: Threads + Wait + Sync, I: Inputs, S: Sink, G: Gate>(
         job.plan,
         out,
         gate,
+        tally,
     )
 }
 
 /// Joins the inputs of these names by their keys, and writes the text of the join.
-pub fn run_join<R: Threads + Wait + Sync, I: Inputs, S: Sink, G: Gate>(
+pub fn run_join<R: Threads + Wait + Sync, I: Inputs, S: Sink, G: Gate, T: Tally>(
     rt: &R,
     alloc: Global,
     job: &JoinWords<'_>,
     inputs: &mut I,
     out: &mut S,
     gate: &G,
+    tally: &mut T,
 ) -> Status
     requires inner { I.may_open inputs.old side.Inner job.now.inner.now }
     requires outer { I.may_open inputs.old side.Outer job.now.outer.now }
@@ -125,6 +137,7 @@ pub fn run_join<R: Threads + Wait + Sync, I: Inputs, S: Sink, G: Gate>(
     ensures faultless { AllIsThere (I.is_steady inputs.old) (I.held inputs.old job.now.inner.now) (I.held inputs.old job.now.outer.now) (S.taken out.old) (S.capacity out.old)
         (due_text (job_at job.now) (I.held inputs.old job.now.inner.now) (I.held inputs.old job.now.outer.now))
         → NoneFailed (counts_of I.open_faults I.read_faults inputs.old) (counts_of I.open_faults I.read_faults inputs.new) (S.faults out.old) (S.faults out.new) }
+    ensures tally { TallyShows (AreOf (job_at job.now) (I.held inputs.old job.now.inner.now) (I.held inputs.old job.now.outer.now)) (T.joins tally.old) (T.last tally.old) (T.joins tally.new) (T.last tally.new) result }
 {
-    join_inputs(rt, alloc, job, inputs, out, gate)
+    join_inputs(rt, alloc, job, inputs, out, gate, tally)
 }

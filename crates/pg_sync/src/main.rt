@@ -5,6 +5,7 @@
 ghost use Rattle.std.specs.Prelude.{◌≡◌, [], IfOk};
 ghost use Rattle.csv_tables.specs.Streams.{gathered_of};
 
+mod counters;
 mod join;
 mod line;
 mod make;
@@ -17,6 +18,7 @@ use crate::line::write_line;
 use crate::run::run;
 use crate::status::Status;
 use csv_tables::{FileInputs, Sink, StderrSink, StdoutSink};
+use join_engine::LastJoin;
 use proc_table::{NoMemory, OpenGate};
 use std::env;
 use std::io::{ErrorKind, Write};
@@ -63,6 +65,7 @@ where
         out,
         err,
         &OpenGate,
+        &mut LastJoin::new(),
     );
     match out.flush() {
         Err(_) if status == Status::Done => Ok(write_line(Status::WriteFault, err)),

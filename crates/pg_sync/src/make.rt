@@ -1,22 +1,26 @@
 //! The join of two tables of drawn keys: a large valid input from a number.
 
-ghost use Rattle.std.specs.Prelude.{◌≡◌, ◌<◌, ◌≤◌, ◌⊎◌, ◌++◌, ◌∷◌, [], None, length, codes, decimal, fold, IfOk, IfErr, OnOk};
+ghost use Rattle.std.specs.Prelude.{◌≡◌, ◌<◌, ◌≤◌, ◌⊎◌, ◌++◌, ◌∷◌, [], None, length, fold, IfOk, IfErr, OnErr, OnOk};
 ghost use Rattle.row_model.specs.Form.{fault_so_far};
 ghost use Rattle.join_engine.specs.Limit.{PairsShow, pair_limit};
 ghost use Rattle.csv_tables.specs.Faults.{Rose};
 ghost use Rattle.pg_sync.specs.Answer.{JoinShows};
-ghost use Rattle.pg_sync.specs.Make.{add_pair, drawn_table, made_answer, made_pairs, made_text, next_state, state_after, states_after};
+ghost use Rattle.pg_sync.specs.Make.{add_pair, drawn_table, made_answer, made_pairs, made_text, next_state, pairs_text, state_after, states_after};
+ghost use Rattle.pg_sync.specs.Tallies.{TallyShows, Told, Untold, made_sizes};
 
+use crate::counters::counters;
 use crate::status::Status;
 use arrayvec::ArrayString;
 use csv_tables::{Sink, write_all};
 use itoa::Buffer;
-use join_engine::{JoinFault, hashed_pairs};
-use proc_table::{NoMemory, Steps};
-use row_model::{Pair, RecordFault, Rows, RowsBuilder};
+use join_engine::{JoinFault, Tally, hashed_pairs, join_rows};
+use proc_table::{Gate, NoMemory, Steps};
+use row_model::{Pair, Plan, RecordFault, Rows, RowsBuilder};
 use std::alloc::Global;
-use std::marker::Brand;
+use std::marker::{Brand, Send, Sync};
+use std::sync::Wait;
 use std::sync::ledger::{Blank, Ledger};
+use std::thread::Threads;
 
 // The generator's state after this one.
 fn next_state(state: u32) -> u32
@@ -88,6 +92,46 @@ fn made_pairs<L: Ledger>(
     }
 }
 
+// The pairs of the join of two tables of drawn keys, by so many workers.
+fn pairs_by<R: Threads + Wait + Sync, G: Gate, T: Tally, L: Ledger + Send>(
+    blank: Blank,
+    rt: &R,
+    alloc: Global,
+    rows: u32,
+    start: u32,
+    workers: u32,
+    gate: &G,
+    tally: &mut T,
+) -> Result<Vec<Pair>, JoinFault>
+    requires name { blank.name ≡ L.name }
+    requires parts { blank.parts ≡ L.parts }
+    requires blanks { 0 < blank.parts }
+    requires some { 0 < rows }
+    requires few { rows ≤ 65536 }
+    requires workers { (0 < workers) × (workers ≤ 16) }
+    ensures pairs { IfOk result (λ v. v.items ≡ made_pairs rows start) }
+    ensures few { OnOk result (length (made_pairs rows start) ≤ pair_limit) }
+    ensures too_many { IfErr result (PairsShow (length (made_pairs rows start))) }
+    ensures told { OnOk result (Told (λ sizes. sizes ≡ made_sizes rows start workers) (T.joins tally.old) (T.joins tally.new) (T.last tally.new)) }
+    ensures untold { OnErr result (Untold (T.joins tally.old) (T.last tally.old) (T.joins tally.new) (T.last tally.new)) }
+{
+    let mut looks = counters::<L>(blank, alloc, workers)?;
+    let (inner, state) = drawn_table(alloc, rows, start)?;
+    let (outer, _) = drawn_table(alloc, rows, state)?;
+    let plan = Plan {
+        workers,
+        buckets: 1024,
+        mem: 65_536,
+    };
+    match join_rows(rt, alloc, &inner, &outer, plan, gate, looks.as_mut_slice()) {
+        Ok(joined) => {
+            tally.joined(&joined);
+            Ok(joined.close())
+        }
+        Err(fault) => Err(fault),
+    }
+}
+
 // A total with one pair more, whose rows are numbered from 1.
 fn add_pair(total: u32, pair: Pair) -> u32
     ensures { result ≡ add_pair total pair }
@@ -114,7 +158,7 @@ fn total_of(pairs: &[Pair]) -> u32
 // How many pairs there are, and their total: 31 bytes at most.
 fn text_of(pairs: &[Pair]) -> ArrayString<64>
     requires { length pairs.now ≤ pair_limit }
-    ensures { result.bytes ≡ codes "rows " ++ decimal (length pairs.now) ++ codes "\ntotal " ++ decimal (fold add_pair 0 pairs.now) ++ codes "\n" }
+    ensures { result.bytes ≡ pairs_text pairs.now }
 {
     let mut text = ArrayString::<64>::new();
     text.push_str("rows ");
@@ -123,6 +167,18 @@ fn text_of(pairs: &[Pair]) -> ArrayString<64>
     text.push_str(Buffer::new().format(total_of(pairs)));
     text.push_str("\n");
     text
+}
+
+// Writes how many pairs there are, and their total.
+fn write_made<S: Sink>(pairs: &[Pair], out: &mut S) -> Status
+    requires few { length pairs.now ≤ pair_limit }
+    ensures answer { JoinShows (length pairs.now) (pairs_text pairs.now) (S.taken out.old) (S.taken out.new) (S.faults out.old) (S.faults out.new) result }
+    ensures written { (result ≡ Status.Done) ⊎ (result ≡ Status.WriteFault) }
+{
+    match write_all(out, text_of(pairs).as_str().as_bytes()) {
+        Ok(()) => Status::Done,
+        Err(_) => Status::WriteFault,
+    }
 }
 
 /// Joins two tables of `rows` drawn keys, by one thread, and writes how many pairs there are and
@@ -142,8 +198,41 @@ pub fn run_make<S: Sink>(alloc: Global, rows: u32, start: u32, out: &mut S) -> S
         Err(JoinFault::TooMany { .. }) => return Status::TooManyResults,
         Err(JoinFault::NoMemory) => return Status::NoMemory,
     };
-    match write_all(out, text_of(pairs.as_slice()).as_str().as_bytes()) {
-        Ok(()) => Status::Done,
-        Err(_) => Status::WriteFault,
-    }
+    write_made(pairs.as_slice(), out)
+}
+
+/// The same by so many workers. The join is told to the tally.
+pub(crate) fn make_by<R: Threads + Wait + Sync, S: Sink, G: Gate, T: Tally>(
+    rt: &R,
+    alloc: Global,
+    rows: u32,
+    start: u32,
+    workers: u32,
+    out: &mut S,
+    gate: &G,
+    tally: &mut T,
+) -> Status
+    requires some { 0 < rows }
+    requires few { rows ≤ 65536 }
+    requires workers { (0 < workers) × (workers ≤ 16) }
+    ensures answer { JoinShows (length (made_pairs rows start)) (made_text rows start) (S.taken out.old) (S.taken out.new) (S.faults out.old) (S.faults out.new) result }
+    ensures completeness { (Rose (S.faults out.old) (S.faults out.new) → ⊥) → (result ≡ made_answer rows start) ⊎ (result ≡ Status.NoMemory) }
+    ensures tally { TallyShows (λ sizes. sizes ≡ made_sizes rows start workers) (T.joins tally.old) (T.last tally.old) (T.joins tally.new) (T.last tally.new) result }
+{
+    let found = pairs_by::<R, G, T, Brand>(
+        Blank::new(1),
+        rt,
+        alloc,
+        rows,
+        start,
+        workers,
+        gate,
+        tally,
+    );
+    let pairs = match found {
+        Ok(pairs) => pairs,
+        Err(JoinFault::TooMany { .. }) => return Status::TooManyResults,
+        Err(JoinFault::NoMemory) => return Status::NoMemory,
+    };
+    write_made(pairs.as_slice(), out)
 }

@@ -7,15 +7,17 @@ ghost use Rattle.pg_sync.specs.Answer.{AllIsThere, BytesShow, CountsShow, Decide
 ghost use Rattle.pg_sync.specs.Line.{TakesLine, line_of};
 ghost use Rattle.pg_sync.specs.Make.{made_answer, made_pairs, made_text};
 ghost use Rattle.pg_sync.specs.Schedule.{ScriptShows, script_due};
+ghost use Rattle.pg_sync.specs.Tallies.{CommandTells};
 ghost use Rattle.pg_sync.specs.Words.{IfJoin, IfMake, IfSchedule, command_of};
 
 use crate::join::run_join;
 use crate::line::write_line;
-use crate::make::run_make;
+use crate::make::{make_by, run_make};
 use crate::schedule::run_schedule;
 use crate::status::Status;
 use crate::words::{Command, read_words};
 use csv_tables::{Inputs, Sink};
+use join_engine::Tally;
 use proc_table::Gate;
 use std::alloc::Global;
 use std::marker::Sync;
@@ -27,7 +29,7 @@ use std::thread::Threads;
 /// `make` the size and the total of such a join of drawn keys, and `schedule` plays a script.
 /// A refusal writes nothing to `out`, save that a failed write or want of memory leaves a front of
 /// the text, and prints its line on `err`.
-pub fn run<R: Threads + Wait + Sync, I: Inputs, S: Sink, E: Sink, G: Gate>(
+pub fn run<R: Threads + Wait + Sync, I: Inputs, S: Sink, E: Sink, G: Gate, T: Tally>(
     rt: &R,
     alloc: Global,
     words: &[String],
@@ -35,6 +37,7 @@ pub fn run<R: Threads + Wait + Sync, I: Inputs, S: Sink, E: Sink, G: Gate>(
     out: &mut S,
     err: &mut E,
     gate: &G,
+    tally: &mut T,
 ) -> Status
     requires inner { IfJoin (command_of (map string_bytes words.now)) (λ job. I.may_open inputs.old side.Inner job.inner) }
     requires outer { IfJoin (command_of (map string_bytes words.now)) (λ job. I.may_open inputs.old side.Outer job.outer) }
@@ -79,21 +82,36 @@ pub fn run<R: Threads + Wait + Sync, I: Inputs, S: Sink, E: Sink, G: Gate>(
     ensures make_completeness { IfMake (command_of (map string_bytes words.now)) (λ rows start.
         (Rose (S.faults out.old) (S.faults out.new) → ⊥) → (result ≡ made_answer rows start) ⊎ (result ≡ Status.NoMemory)) }
 
+    // A join is told to the tally, once, exactly where it is done; want of memory may come before or after.
+    ensures tally { CommandTells (command_of (map string_bytes words.now)) (I.held inputs.old) (T.joins tally.old) (T.last tally.old) (T.joins tally.new) (T.last tally.new) result }
+
     // The line of the answer, or a proper front of it where a write of it failed.
     ensures err_line { TakesLine (E.taken err.old) (E.taken err.new) (E.faults err.old) (E.faults err.new) (line_of result) }
 {
     match read_words(words) {
         None => write_line(Status::Words, err),
         Some(Command::Join(job)) => {
-            let status = run_join(rt, alloc, &job, inputs, out, gate);
+            let status = run_join(rt, alloc, &job, inputs, out, gate, tally);
             write_line(status, err)
         }
         Some(Command::Schedule(name)) => {
             let status = run_schedule(alloc, name, inputs, out);
             write_line(status, err)
         }
-        Some(Command::Make { rows, start, .. }) => {
+        Some(Command::Make {
+            rows,
+            start,
+            workers: 1,
+        }) => {
             let status = run_make(alloc, rows, start, out);
+            write_line(status, err)
+        }
+        Some(Command::Make {
+            rows,
+            start,
+            workers,
+        }) => {
+            let status = make_by(rt, alloc, rows, start, workers, out, gate, tally);
             write_line(status, err)
         }
     }

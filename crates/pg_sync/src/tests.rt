@@ -8,6 +8,7 @@ use crate::run::run;
 use crate::status::Status;
 use crate::words::{Command, read_words};
 use csv_tables::{MemInputs, MemSink};
+use join_engine::LastJoin;
 use proc_table::{NoMemory, OpenGate};
 use row_model::{Plan, RowFault, Side};
 use std::alloc::Global;
@@ -15,6 +16,8 @@ use std::marker::Sync;
 use std::sync::Wait;
 use std::test::Fail;
 use std::thread::Threads;
+
+mod workers;
 
 const PEOPLE: &str = "id,name\n1,Ann\n2,Bob\n";
 
@@ -100,7 +103,16 @@ fn run_words<R: Threads + Wait + Sync + AllocGlobal>(
     let mut inputs = MemInputs::new(files, listed(alloc, setup.input)?, setup.piece);
     let mut out = MemSink::new(alloc, listed(alloc, setup.out)?, 5, 10_000)?;
     let mut err = MemSink::new(alloc, listed(alloc, setup.err)?, 100, 100)?;
-    let status = run(rt, alloc, words, &mut inputs, &mut out, &mut err, &OpenGate);
+    let status = run(
+        rt,
+        alloc,
+        words,
+        &mut inputs,
+        &mut out,
+        &mut err,
+        &OpenGate,
+        &mut LastJoin::new(),
+    );
     Ok(Ended { status, out, err })
 }
 
@@ -361,19 +373,6 @@ fn rows_of_a(alloc: Global, rows: u32) -> Result<Vec<u8>, NoMemory> {
         text.extend_from_slice(b"a\n")?;
     }
     Ok(text)
-}
-
-#[test]
-fn nine_million_pairs_are_refused(rt: HostRuntime) -> Result<(), Fail> {
-    let text = rows_of_a(rt.alloc(), 3000)?;
-    let ended = join(&rt, ("k", "k"), text.as_slice(), text.as_slice(), CALM)?;
-    assert_eq!(rt; ended.status, Status::TooManyResults);
-    assert!(rt; ended.out.taken().is_empty());
-    assert_eq!(rt;
-        ended.err.taken(),
-        b"pg_sync: too many result rows\n".as_slice()
-    );
-    Ok(())
 }
 
 #[test]
