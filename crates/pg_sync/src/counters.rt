@@ -17,6 +17,10 @@ pub(crate) fn counters<L: Ledger>(
     requires some { 0 < blank.parts }
     ensures count { IfOk result (λ v. length v.items ≡ count) }
 {
-    let _first = Steps::<L>::new(blank);
-    Err(NoMemory)
+    let first = Steps::<L>::new(blank);
+    let mut counters = Vec::new(alloc);
+    'counters: for made in 0..count {
+        counters.push(first.beside())?;
+    }
+    Ok(counters)
 }

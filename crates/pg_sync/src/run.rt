@@ -98,19 +98,23 @@ pub fn run<R: Threads + Wait + Sync, I: Inputs, S: Sink, E: Sink, G: Gate, T: Ta
             let status = run_schedule(alloc, name, inputs, out);
             write_line(status, err)
         }
-        Some(Command::Make {
-            rows,
-            start,
-            workers: 1,
-        }) => {
+        Some(
+            Command::Make {
+                rows,
+                start,
+                workers: 1,
+            },
+        ) => {
             let status = run_make(alloc, rows, start, out);
             write_line(status, err)
         }
-        Some(Command::Make {
-            rows,
-            start,
-            workers,
-        }) => {
+        Some(
+            Command::Make {
+                rows,
+                start,
+                workers,
+            },
+        ) => {
             let status = make_by(rt, alloc, rows, start, workers, out, gate, tally);
             write_line(status, err)
         }

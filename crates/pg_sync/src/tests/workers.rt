@@ -66,7 +66,9 @@ fn any_number_of_workers_prints_the_same(rt: HostRuntime) -> Result<(), Fail> {
     ];
     for (key, inner, outer, text) in cases {
         for option in options {
-            let words = format!(in rt.alloc(); "join i o --inner-key {key} --outer-key {key} {option}")?;
+            let words = format!(in rt.alloc();
+                "join i o --inner-key {key} --outer-key {key} {option}"
+            )?;
             let words = words.as_str().trim_end();
             let ended = run_text(&rt, words, inner.as_bytes(), outer.as_bytes())?;
             assert_eq!(rt; ended.status, Status::Done, "of {words}");
@@ -126,7 +128,9 @@ fn twenty_thousand_rows_in_order(rt: HostRuntime) -> Result<(), Fail> {
 fn rows_of_one_key_and_small_batches(rt: HostRuntime) -> Result<(), Fail> {
     let inner = rows_of_a(rt.alloc(), 40)?;
     for workers in [1, 4, 16] {
-        let words = format!(in rt.alloc(); "join i o {KEYED} --workers {workers} --buckets 1 --mem 2")?;
+        let words = format!(in rt.alloc();
+            "join i o {KEYED} --workers {workers} --buckets 1 --mem 2"
+        )?;
         let ended = run_text(&rt, words.as_str(), inner.as_slice(), b"k\na\n")?;
         let mut expected = Vec::from_slice(rt.alloc(), b"k,k\n")?;
         for _row in 0..40u32 {
@@ -247,7 +251,9 @@ fn workers_that_are_held_up_change_nothing(rt: HostRuntime) -> Result<(), Fail> 
         (4, holding(8, Stage::Started, 7, Stage::Left)),
     ];
     for (workers, gate) in cases {
-        let words = format!(in rt.alloc(); "join i o --inner-key id --outer-key id --workers {workers}")?;
+        let words = format!(in rt.alloc();
+            "join i o --inner-key id --outer-key id --workers {workers}"
+        )?;
         let mut tally = LastJoin::new();
         let ended = run_gated(
             &rt,
@@ -293,7 +299,13 @@ fn two_workers_share_the_rows(rt: HostRuntime) -> Result<(), Fail> {
         workers: 2,
         pairs: 1,
     };
-    assert_eq!(rt; tally, LastJoin { joins: 1, last: Some(sizes) });
+    assert_eq!(rt;
+        tally,
+        LastJoin {
+            joins: 1,
+            last: Some(sizes)
+        }
+    );
     Ok(())
 }
 
