@@ -200,7 +200,7 @@ struct Holding {
     found: AtomicU64,
 }
 
-fn holding(held: u64, at: Stage, others: u64, until: Stage) -> Holding {
+fn hold_up(held: u64, at: Stage, others: u64, until: Stage) -> Holding {
     Holding {
         held,
         at,
@@ -247,8 +247,8 @@ impl Gate for Holding {
 fn workers_that_are_held_up_change_nothing(rt: HostRuntime) -> Result<(), Fail> {
     // how many workers, who is held where, and until who has come where
     let cases = [
-        (2, holding(1, Stage::Attached, 2, Stage::Attached)),
-        (4, holding(8, Stage::Started, 7, Stage::Left)),
+        (2, hold_up(1, Stage::Attached, 2, Stage::Attached)),
+        (4, hold_up(8, Stage::Started, 7, Stage::Left)),
     ];
     for (workers, gate) in cases {
         let words = format!(in rt.alloc();
@@ -280,7 +280,7 @@ fn two_workers_share_the_rows(rt: HostRuntime) -> Result<(), Fail> {
     for n in 1..129u32 {
         inner.extend_from_slice(format!(in rt.alloc(); "{n}\n")?.as_bytes())?;
     }
-    let gate = holding(3, Stage::Chunk, 3, Stage::Chunk);
+    let gate = hold_up(3, Stage::Chunk, 3, Stage::Chunk);
     let mut tally = LastJoin::new();
     let words = format!(in rt.alloc(); "join i o {KEYED} --workers 2")?;
     let ended = run_gated(
