@@ -6,9 +6,23 @@ ghost use Rattle.join_law.specs.Views.{dropped};
 ghost use Rattle.join_party.specs.Joins.{join};
 ghost use Rattle.shared_tuples.specs.Lists.{MayPushTo, MayTakeFrom, IsFrom};
 
+use crossbeam_utils::Backoff;
 use join_party::{HashParty, HashStep, Look, Source, Word};
 use std::sync::Wait;
 use wait_core::{WaitSeat, WaitTable};
+
+// How often a worker spins after an exchange that failed, each time longer up to a limit.
+const SPINS: u32 = 12;
+
+// Stays away from a head for a while, where an exchange of it failed. Its line of a cache is then left to another
+// worker, who puts or takes many rows meanwhile; to look at it at once would take the line away from them.
+#[inline(never)]
+fn give_way() {
+    let backoff = Backoff::new();
+    for _ in 0..SPINS {
+        backoff.spin();
+    }
+}
 
 // Puts a row in hand, whose hash is stored, in front of the list at a head. Its next word is stored
 // before the head is exchanged for it, so who finds the row finds the rows after it.
@@ -25,12 +39,12 @@ pub(crate) fn push<'r, R: Wait>(
     ensures table { (seat.new.table_id ≡ seat.old.table_id) × (seat.new.id ≡ seat.old.id) }
     ensures view { seat.new.view ≡ client_moved seat.old.view (dropped seat.old.view.client row) }
 {
-    let mut first = waits
-        .client(seat, HashStep::Load(Look::Plain(Word::Head(head))))
-        .old;
     for _ in rt.forever() {
+        let first = waits
+            .client(seat, HashStep::Load(Look::Plain(Word::Head(head))))
+            .old;
         waits.client(seat, HashStep::StoreNext { row, next: first });
-        let seen = waits.client(
+        let pushed = waits.client(
             seat,
             HashStep::Push {
                 row,
@@ -38,10 +52,10 @@ pub(crate) fn push<'r, R: Wait>(
                 found: first,
             },
         );
-        if seen.changed {
+        if pushed.changed {
             return;
         }
-        first = seen.old;
+        give_way();
     }
     unreachable!()
 }
@@ -76,6 +90,7 @@ pub(crate) fn take_first<'r, R: Wait>(
         if seen.changed {
             return Some(row);
         }
+        give_way();
     }
     unreachable!()
 }
