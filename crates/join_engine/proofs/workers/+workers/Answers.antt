@@ -19,4 +19,5 @@ pub returns-clause-together : goal.returns-clause-together
 returns-clause-together g t c =
     let number : ℕ = c.args.shared.now.tables.now.plan.workers - length c.args.steps.now in
     let is : c.args.steps.now ≡ c.in-Some.first.now ∷ c.in-Some.rest.now = search rules in
-    with_sums c.args.shared.now.tables.now _ _ _ _ _ _ c.gather.new.leader c.gather.new.pairs.items c.gather.result (number + 1) c.in-Some.first.now c.first-2-1.given.0 c.in-Some.rest.now c.rest-1.given.0 c.args.steps.now c.gather.ensures.together (search rules) (search rules) is
+    let counted = with_sums c.args.shared.now.tables.now _ _ _ _ _ _ c.gather.new.leader c.gather.new.pairs.items c.gather.result (number + 1) c.in-Some.first.now c.in-Some.rest.now c.args.steps.now c.gather.ensures.together is in
+    search (rules, counted)
