@@ -33,7 +33,7 @@ const PROBE: u64 = 3;
 const SCAN: u64 = 4;
 
 // The barrier of a batch, and that of the build.
-fn barrier_of(batch: u32) -> BarNo
+pub(crate) fn barrier_of(batch: u32) -> BarNo
     requires few { batch < 64 }
     ensures { result ≡ batch_bar batch }
 {
@@ -71,7 +71,7 @@ fn skip_batch<'r, R: Wait>(rt: &R, tables: &JoinTables<'r>, seats: &mut JoinSeat
 }
 
 // Arrives at the end of a phase before PROBE, and waits until all have.
-fn go_on<'r, R: Wait>(
+pub(crate) fn go_on<'r, R: Wait>(
     rt: &R,
     tables: &JoinTables<'r>,
     seats: &mut JoinSeats<'r>,
@@ -120,7 +120,7 @@ fn pass_to_probe<'r, R: Wait>(
 
 // Leaves a batch whose outer store is at its end, unless nobody else is attached: then the batch is at
 // SCAN, and the answer is true.
-fn leave_unless_last<'r, R: Wait>(
+pub(crate) fn leave_unless_last<'r, R: Wait>(
     rt: &R,
     tables: &JoinTables<'r>,
     seats: &mut JoinSeats<'r>,
@@ -144,7 +144,12 @@ fn leave_unless_last<'r, R: Wait>(
 }
 
 // Leaves a batch at SCAN, which makes it FREE where nobody attached meanwhile.
-fn leave_last<'r, R: Wait>(rt: &R, tables: &JoinTables<'r>, seats: &mut JoinSeats<'r>, batch: u32)
+pub(crate) fn leave_last<'r, R: Wait>(
+    rt: &R,
+    tables: &JoinTables<'r>,
+    seats: &mut JoinSeats<'r>,
+    batch: u32,
+)
     requires awake { IsAwake tables.now seats.old }
     requires few { batch < 64 }
     requires attached { seats.old.wait.view.attached ≡ (batch_bar batch, SCAN) ∷ (build, RUN) ∷ [] }

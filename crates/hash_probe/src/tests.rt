@@ -212,7 +212,9 @@ fn join_alone<R: Abort + Wait>(
 }
 
 // Probed so many rows, with nothing else to say.
-fn unmarked(probed: u32) -> Probed {
+fn unmarked(probed: u32) -> Probed
+    ensures { result.probed ≡ probed }
+{
     Probed {
         probed,
         over: None,

@@ -1,68 +1,39 @@
--- Laws of lists of nine words, of four, and of two.
-use Rattle.std.proofs.Common.{◌≡◌, ◌∙◌, ℕ, Bool, true, false, cond, ◌<◌, ◌≤◌, ◌≢◌, List, [], ◌∷◌, length, get_or, Some, None, refl, sym, arith}
-use Rattle.pg_sync.specs.Words.{Join, is_join, make_of, schedule_of, command_of}
+-- Laws of options, and of numbers that are powers of two.
+use Rattle.std.proofs.Common.{◌≡◌, ℕ, ◌-◌, ◌/◌, ◌%◌, ◌≤◌, List, [], ◌∷◌, take, take_all, drop, length, map, String, Global, string_bytes, get_or, count_ones, Some, refl, arith, zero, suc}
+use Rattle.std.specs.Int.{IsPowerOfTwo}
+use lib.Count.{ones_step}
+use Rattle.std.proofs.lemmas.Nat.{ones_le_self, zero_from_ones}
+use Rattle.std.proofs.Math.Nat.{two-pow-succ}
+use Rattle.pg_sync.specs.Words.{IsPlan, Options, no_options, plan_of, add_option, read_options}
 
--- a list of nine elements, by what was read of it
-pub nine : {X : Type 0} (ws : List X) (a b c d e f g h i : X) → 9 ≤ length ws → length ws < 10 → a ≡ get_or ws 0 a → b ≡ get_or ws 1 b → c ≡ get_or ws 2 c → d ≡ get_or ws 3 d → e ≡ get_or ws 4 e → f ≡ get_or ws 5 f → g ≡ get_or ws 6 g → h ≡ get_or ws 7 h → i ≡ get_or ws 8 i → ws ≡ a ∷ b ∷ c ∷ d ∷ e ∷ f ∷ g ∷ h ∷ i ∷ []
-nine [] a b c d e f g h i lo hi h0 h1 h2 h3 h4 h5 h6 h7 h8 = absurd (omega arith)
-nine (w0 ∷ []) a b c d e f g h i lo hi h0 h1 h2 h3 h4 h5 h6 h7 h8 = absurd (omega arith)
-nine (w0 ∷ w1 ∷ []) a b c d e f g h i lo hi h0 h1 h2 h3 h4 h5 h6 h7 h8 = absurd (omega arith)
-nine (w0 ∷ w1 ∷ w2 ∷ []) a b c d e f g h i lo hi h0 h1 h2 h3 h4 h5 h6 h7 h8 = absurd (omega arith)
-nine (w0 ∷ w1 ∷ w2 ∷ w3 ∷ []) a b c d e f g h i lo hi h0 h1 h2 h3 h4 h5 h6 h7 h8 = absurd (omega arith)
-nine (w0 ∷ w1 ∷ w2 ∷ w3 ∷ w4 ∷ []) a b c d e f g h i lo hi h0 h1 h2 h3 h4 h5 h6 h7 h8 = absurd (omega arith)
-nine (w0 ∷ w1 ∷ w2 ∷ w3 ∷ w4 ∷ w5 ∷ []) a b c d e f g h i lo hi h0 h1 h2 h3 h4 h5 h6 h7 h8 = absurd (omega arith)
-nine (w0 ∷ w1 ∷ w2 ∷ w3 ∷ w4 ∷ w5 ∷ w6 ∷ []) a b c d e f g h i lo hi h0 h1 h2 h3 h4 h5 h6 h7 h8 = absurd (omega arith)
-nine (w0 ∷ w1 ∷ w2 ∷ w3 ∷ w4 ∷ w5 ∷ w6 ∷ w7 ∷ []) a b c d e f g h i lo hi h0 h1 h2 h3 h4 h5 h6 h7 h8 = absurd (omega arith)
-nine (w0 ∷ w1 ∷ w2 ∷ w3 ∷ w4 ∷ w5 ∷ w6 ∷ w7 ∷ w8 ∷ []) a b c d e f g h i lo hi h0 h1 h2 h3 h4 h5 h6 h7 h8 = rw (← h0, ← h1, ← h2, ← h3, ← h4, ← h5, ← h6, ← h7, ← h8) refl
-nine (w0 ∷ w1 ∷ w2 ∷ w3 ∷ w4 ∷ w5 ∷ w6 ∷ w7 ∷ w8 ∷ w9 ∷ ws) a b c d e f g h i lo hi h0 h1 h2 h3 h4 h5 h6 h7 h8 = absurd (omega arith)
+-- an even number is a power of two where its half is one
+twice : (n half : ℕ) → n % 2 ≡ 0 → half ≡ n / 2 → IsPowerOfTwo half → IsPowerOfTwo n
+twice n half even is p = (suc p.0, omega (arith, two-pow-succ p.0))
 
--- a list of four elements, by what was read of it
-pub four : {X : Type 0} (ws : List X) (a b c d : X) → length ws ≡ 4 → a ≡ get_or ws 0 a → b ≡ get_or ws 1 b → c ≡ get_or ws 2 c → d ≡ get_or ws 3 d → ws ≡ a ∷ b ∷ c ∷ d ∷ []
-four [] a b c d e h0 h1 h2 h3 = absurd (omega arith)
-four (w0 ∷ []) a b c d e h0 h1 h2 h3 = absurd (omega arith)
-four (w0 ∷ w1 ∷ []) a b c d e h0 h1 h2 h3 = absurd (omega arith)
-four (w0 ∷ w1 ∷ w2 ∷ []) a b c d e h0 h1 h2 h3 = absurd (omega arith)
-four (w0 ∷ w1 ∷ w2 ∷ w3 ∷ []) a b c d e h0 h1 h2 h3 = rw (← h0, ← h1, ← h2, ← h3) refl
-four (w0 ∷ w1 ∷ w2 ∷ w3 ∷ w4 ∷ ws) a b c d e h0 h1 h2 h3 = absurd (omega arith)
+-- a number of which one bit is set is a power of two
+one_bit : (d n last : ℕ) → n ≤ d → last ≡ n % 2 → count_ones n ≡ 1 → IsPowerOfTwo n
+one_bit zero n last h l e = absurd (omega (arith, ones_le_self n))
+one_bit (suc d) n zero h l e =
+    let step = ones_step n in
+    twice n (n / 2) (omega arith) refl (one_bit d (n / 2) (n / 2 % 2) (omega arith) refl (omega arith))
+one_bit (suc d) n (suc last) h l e =
+    let step = ones_step n in
+    let half = zero_from_ones (n / 2) (omega arith) in
+    (0, omega arith)
 
--- a list of two elements, by what was read of it
-pub two : {X : Type 0} (ws : List X) (a b : X) → length ws ≡ 2 → a ≡ get_or ws 0 a → b ≡ get_or ws 1 b → ws ≡ a ∷ b ∷ []
-two [] a b e h0 h1 = absurd (omega arith)
-two (w0 ∷ []) a b e h0 h1 = absurd (omega arith)
-two (w0 ∷ w1 ∷ []) a b e h0 h1 = rw (← h0, ← h1) refl
-two (w0 ∷ w1 ∷ w2 ∷ ws) a b e h0 h1 = absurd (omega arith)
+pub power_of_one_bit : (n : ℕ) → count_ones n ≡ 1 → IsPowerOfTwo n
+power_of_one_bit n = one_bit n n (n % 2) (omega arith) refl
 
--- a list of another length is no command
-pub command_of-other : (ws : List (List ℕ)) → length ws ≢ 9 → length ws ≢ 4 → length ws ≢ 2 → command_of ws ≡ None
-unfolding command_of
-command_of-other [] nine four two = refl
-command_of-other (w0 ∷ []) nine four two = refl
-command_of-other (w0 ∷ w1 ∷ []) nine four two = absurd (two refl)
-command_of-other (w0 ∷ w1 ∷ w2 ∷ []) nine four two = refl
-command_of-other (w0 ∷ w1 ∷ w2 ∷ w3 ∷ []) nine four two = absurd (four refl)
-command_of-other (w0 ∷ w1 ∷ w2 ∷ w3 ∷ w4 ∷ []) nine four two = refl
-command_of-other (w0 ∷ w1 ∷ w2 ∷ w3 ∷ w4 ∷ w5 ∷ []) nine four two = refl
-command_of-other (w0 ∷ w1 ∷ w2 ∷ w3 ∷ w4 ∷ w5 ∷ w6 ∷ []) nine four two = refl
-command_of-other (w0 ∷ w1 ∷ w2 ∷ w3 ∷ w4 ∷ w5 ∷ w6 ∷ w7 ∷ []) nine four two = refl
-command_of-other (w0 ∷ w1 ∷ w2 ∷ w3 ∷ w4 ∷ w5 ∷ w6 ∷ w7 ∷ w8 ∷ []) nine four two = absurd (nine refl)
-command_of-other (w0 ∷ w1 ∷ w2 ∷ w3 ∷ w4 ∷ w5 ∷ w6 ∷ w7 ∷ w8 ∷ w9 ∷ ws) nine four two = refl
+-- the defaults are within their limits
+pub defaults : IsPlan (plan_of no_options)
+defaults = record { workers = (omega arith, omega arith); buckets = ((10, refl), omega arith); mem = (omega arith, omega arith) }
 
-pub command_of-two : (a b : List ℕ) → command_of (a ∷ b ∷ []) ≡ schedule_of a b
-unfolding command_of
-command_of-two a b = refl
-
-pub command_of-four : (a b c d : List ℕ) → command_of (a ∷ b ∷ c ∷ d ∷ []) ≡ make_of a b c d
-unfolding command_of
-command_of-four a b c d = refl
-
-pub command_of-nine : (a b c d e f g h i : List ℕ) (r : Bool) → r ≡ is_join a b c d f h i
-    → command_of (a ∷ b ∷ c ∷ d ∷ e ∷ f ∷ g ∷ h ∷ i ∷ []) ≡ cond r (Some (Join (record { inner = b; outer = c; inner_key = e; outer_key = g }))) None
-unfolding command_of
-command_of-nine a b c d e f g h i r same = rw same refl
-
-pub command_of-none : (a b c d e f g h i : List ℕ) (r : Bool) → r ≡ is_join a b c d f h i → r ≡ false → None ≡ command_of (a ∷ b ∷ c ∷ d ∷ e ∷ f ∷ g ∷ h ∷ i ∷ [])
-command_of-none a b c d e f g h i r same no_join = sym (command_of-nine a b c d e f g h i r same ∙ rw no_join refl)
-
-pub command_of-some : (a b c d e f g h i : List ℕ) (r : Bool) → r ≡ is_join a b c d f h i → r ≡ true
-    → Some (Join (record { inner = b; outer = c; inner_key = e; outer_key = g })) ≡ command_of (a ∷ b ∷ c ∷ d ∷ e ∷ f ∷ g ∷ h ∷ i ∷ [])
-command_of-some a b c d e f g h i r same join = sym (command_of-nine a b c d e f g h i r same ∙ rw join refl)
+-- options are read by their first name and value, and then by the words that are left
+pub reads_on : (given more : Options) (ws : List (String Global)) (name value : String Global) → 2 ≤ length ws → name ≡ get_or ws 0 name → value ≡ get_or ws 1 value
+    → Some more ≡ add_option given (string_bytes name) (string_bytes value)
+    → read_options more (map string_bytes (take (length ws - 2) (drop 2 ws))) ≡ read_options given (map string_bytes ws)
+unfolding read_options
+reads_on given more [] name value few h0 h1 e = absurd (omega arith)
+reads_on given more (w0 ∷ []) name value few h0 h1 e = absurd (omega arith)
+reads_on given more (w0 ∷ w1 ∷ ws) name value few h0 h1 e =
+    rw (take_all (length (w0 ∷ w1 ∷ ws) - 2) ws (omega arith), ← h0, ← h1, ← e) refl

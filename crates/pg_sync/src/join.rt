@@ -7,7 +7,7 @@ ghost use Rattle.row_model.specs.Table.{nested_loop};
 ghost use Rattle.row_model.specs.declared.Side.TheVariants as side;
 ghost use Rattle.pg_sync.specs.declared.status.Status.TheVariants as status;
 ghost use Rattle.pg_sync.specs.Answer.{AllIsThere, BytesShow, CountsShow, Decided, JoinShows, Leaves, NoInputFailed, NoneFailed, counts_of, due_text, refusal_of};
-ghost use Rattle.pg_sync.specs.Words.{job_at};
+ghost use Rattle.pg_sync.specs.Words.{IsPlan, job_at};
 
 use crate::status::Status;
 use crate::words::JoinWords;
@@ -48,7 +48,7 @@ fn print_join<R: Threads + Wait + Sync, S: Sink, G: Gate, L: Ledger>(
     requires name { blank.name ≡ L.name }
     requires parts { blank.parts ≡ L.parts }
     requires some { 0 < blank.parts }
-    requires workers { plan.workers ≡ 1 }
+    requires plan { IsPlan plan }
     ensures joins { JoinShows (length (nested_loop outer.now inner.now)) (joined_text outer.now inner.now) (S.taken out.old) (S.taken out.new) (S.faults out.old) (S.faults out.new) result }
     ensures capacity { S.capacity out.new ≡ S.capacity out.old }
     ensures full { result ≡ status.WriteFault → IsFull (S.taken out.new) (S.capacity out.new) }
@@ -77,7 +77,7 @@ fn join_inputs<R: Threads + Wait + Sync, I: Inputs, S: Sink, G: Gate>(
 ) -> Status
     requires inner { I.may_open inputs.old side.Inner job.now.inner.now }
     requires outer { I.may_open inputs.old side.Outer job.now.outer.now }
-    requires workers { job.now.plan.workers ≡ 1 }
+    requires plan { IsPlan job.now.plan }
     ensures bytes { BytesShow (job_at job.now) (I.held inputs.old job.now.inner.now) (I.held inputs.old job.now.outer.now) result }
     ensures counts { CountsShow (counts_of I.open_faults I.read_faults inputs.old) (counts_of I.open_faults I.read_faults inputs.new) (S.faults out.old) (S.faults out.new) result }
     ensures written { Leaves (S.taken out.old) (S.taken out.new) (due_text (job_at job.now) (I.held inputs.old job.now.inner.now) (I.held inputs.old job.now.outer.now)) result }
@@ -116,7 +116,7 @@ pub fn run_join<R: Threads + Wait + Sync, I: Inputs, S: Sink, G: Gate>(
 ) -> Status
     requires inner { I.may_open inputs.old side.Inner job.now.inner.now }
     requires outer { I.may_open inputs.old side.Outer job.now.outer.now }
-    requires workers { job.now.plan.workers ≡ 1 }
+    requires plan { IsPlan job.now.plan }
     ensures written { Leaves (S.taken out.old) (S.taken out.new) (due_text (job_at job.now) (I.held inputs.old job.now.inner.now) (I.held inputs.old job.now.outer.now)) result }
     ensures bytes { BytesShow (job_at job.now) (I.held inputs.old job.now.inner.now) (I.held inputs.old job.now.outer.now) result }
     ensures counts { CountsShow (counts_of I.open_faults I.read_faults inputs.old) (counts_of I.open_faults I.read_faults inputs.new) (S.faults out.old) (S.faults out.new) result }

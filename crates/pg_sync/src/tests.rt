@@ -6,9 +6,10 @@ ghost use Rattle.std.specs.Prelude.{◌<◌};
 use crate::line::write_line;
 use crate::run::run;
 use crate::status::Status;
+use crate::words::{Command, read_words};
 use csv_tables::{MemInputs, MemSink};
 use proc_table::{NoMemory, OpenGate};
-use row_model::{RowFault, Side};
+use row_model::{Plan, RowFault, Side};
 use std::alloc::Global;
 use std::marker::Sync;
 use std::sync::Wait;
@@ -63,6 +64,18 @@ fn owned(alloc: Global, words: &[&str]) -> Result<Vec<String>, NoMemory> {
     Ok(all)
 }
 
+// The words of a text, between single spaces; an empty text has none.
+fn words_in(alloc: Global, text: &str) -> Result<Vec<String>, NoMemory> {
+    let mut words = Vec::new(alloc);
+    if text.is_empty() {
+        return Ok(words);
+    }
+    for word in text.split(' ') {
+        words.push(String::from_str(alloc, word)?)?;
+    }
+    Ok(words)
+}
+
 fn file(alloc: Global, name: &str, bytes: &[u8]) -> Result<(String, Vec<u8>), NoMemory> {
     Ok((
         String::from_str(alloc, name)?,
@@ -73,7 +86,7 @@ fn file(alloc: Global, name: &str, bytes: &[u8]) -> Result<(String, Vec<u8>), No
 // Runs these words where the inner input is held as `i` and the outer one as `o`.
 fn run_words<R: Threads + Wait + Sync + AllocGlobal>(
     rt: &R,
-    words: &[&str],
+    words: &[String],
     inner: &[u8],
     outer: &[u8],
     setup: Setup,
@@ -87,16 +100,7 @@ fn run_words<R: Threads + Wait + Sync + AllocGlobal>(
     let mut inputs = MemInputs::new(files, listed(alloc, setup.input)?, setup.piece);
     let mut out = MemSink::new(alloc, listed(alloc, setup.out)?, 5, 10_000)?;
     let mut err = MemSink::new(alloc, listed(alloc, setup.err)?, 100, 100)?;
-    let words = owned(alloc, words)?;
-    let status = run(
-        rt,
-        alloc,
-        words.as_slice(),
-        &mut inputs,
-        &mut out,
-        &mut err,
-        &OpenGate,
-    );
+    let status = run(rt, alloc, words, &mut inputs, &mut out, &mut err, &OpenGate);
     Ok(Ended { status, out, err })
 }
 
@@ -121,7 +125,8 @@ fn join<R: Threads + Wait + Sync + AllocGlobal>(
         "--workers",
         "1",
     ];
-    run_words(rt, &words, inner, outer, setup)
+    let words = owned(rt.alloc(), &words)?;
+    run_words(rt, words.as_slice(), inner, outer, setup)
 }
 
 // Joins the orders to these people by their key.
@@ -230,51 +235,103 @@ fn refusals_and_their_lines(rt: HostRuntime) {
 }
 
 #[test]
-fn words_that_name_no_command(rt: HostRuntime) {
-    let cases: [&[&str]; 5] = [
-        &[],
-        &["join", "i", "o", "--workers", "1"],
-        &[
-            "join",
-            "i",
-            "o",
-            "--inner-key",
-            "id",
-            "--outer-key",
-            "id",
-            "--workers",
-            "0",
-        ],
-        &[
-            "join",
-            "--i",
-            "o",
-            "--inner-key",
-            "id",
-            "--outer-key",
-            "id",
-            "--workers",
-            "1",
-        ],
-        &[
-            "join",
-            "i",
-            "",
-            "--inner-key",
-            "id",
-            "--outer-key",
-            "id",
-            "--workers",
-            "1",
-        ],
+fn words_that_name_no_command(rt: HostRuntime) -> Result<(), Fail> {
+    let cases = [
+        "",
+        "join",
+        "join i o",
+        "join i o --inner-key id",
+        "join i o --outer-key id --workers 1",
+        "join --i o --inner-key id --outer-key id",
+        "join i  --inner-key id --outer-key id",
+        "join i o i --inner-key id --outer-key id",
+        "join i o --inner-key id --outer-key id --inner-key id",
+        "join i o --inner-key id --outer-key id --outer-key id",
+        "join i o --inner-key id --outer-key id --workers",
+        "join i o --inner-key id --outer-key id --workers=2",
+        "join i o --inner-key id --outer-key id --workers 0",
+        "join i o --inner-key id --outer-key id --workers 02",
+        "join i o --inner-key id --outer-key id --workers 17",
+        "join i o --inner-key id --outer-key id --workers 2 --workers 2",
+        "join i o --inner-key id --outer-key id --buckets 0",
+        "join i o --inner-key id --outer-key id --buckets 3",
+        "join i o --inner-key id --outer-key id --buckets 524288",
+        "join i o --inner-key id --outer-key id --buckets 1 --buckets 1",
+        "join i o --inner-key id --outer-key id --mem 0",
+        "join i o --inner-key id --outer-key id --mem 262145",
+        "join i o --inner-key id --outer-key id --mem 2 --mem 2",
+        "join i o --inner-key id --outer-key id --batches 1",
+        "make 2 0",
+        "make 0 0 1",
+        "make 65537 0 1",
+        "make 2 4294967296 1",
+        "make 2 0 0",
+        "make 2 0 17",
+        "schedule",
+        "schedule --i",
+        "schedule i i",
     ];
-    for words in cases {
-        let ended = run_words(&rt, words, PEOPLE.as_bytes(), ORDERS.as_bytes(), CALM);
-        let ended = ended.expect(&rt, "memory");
-        assert_eq!(rt; ended.status, Status::Words);
+    for text in cases {
+        let words = words_in(rt.alloc(), text)?;
+        let (inner, outer) = (PEOPLE.as_bytes(), ORDERS.as_bytes());
+        let ended = run_words(&rt, words.as_slice(), inner, outer, CALM)?;
+        assert_eq!(rt; ended.status, Status::Words, "of {text}");
         assert_eq!(rt; ended.err.taken(), b"pg_sync: wrong words\n".as_slice());
         assert!(rt; ended.out.taken().is_empty());
     }
+    Ok(())
+}
+
+// The keys and the plan of the join that the words name.
+fn join_in<'w>(words: &'w [String]) -> Option<(&'w str, &'w str, Plan)> {
+    match read_words(words) {
+        Some(Command::Join(job)) => Some((job.inner_key, job.outer_key, job.plan)),
+        _ => None,
+    }
+}
+
+fn plan(workers: u32, buckets: u32, mem: u32) -> Plan {
+    Plan {
+        workers,
+        buckets,
+        mem,
+    }
+}
+
+#[test]
+fn options_of_a_join(rt: HostRuntime) -> Result<(), Fail> {
+    // words, and the keys and the plan that they name
+    let cases = [
+        (
+            "join i o --inner-key k --outer-key l",
+            ("k", "l", plan(4, 1024, 65_536)),
+        ),
+        (
+            "join i o --workers 16 --outer-key l --inner-key k",
+            ("k", "l", plan(16, 1024, 65_536)),
+        ),
+        (
+            "join i o --inner-key k --buckets 1 --outer-key l",
+            ("k", "l", plan(4, 1, 65_536)),
+        ),
+        (
+            "join i o --inner-key k --outer-key l --mem 1",
+            ("k", "l", plan(4, 1024, 1)),
+        ),
+        (
+            "join i o --mem 262144 --buckets 262144 --workers 1 --inner-key k --outer-key l",
+            ("k", "l", plan(1, 262_144, 262_144)),
+        ),
+        (
+            "join i o --outer-key --mem --workers 2 --inner-key --workers",
+            ("--workers", "--mem", plan(2, 1024, 65_536)),
+        ),
+    ];
+    for (text, join) in cases {
+        let words = words_in(rt.alloc(), text)?;
+        assert_eq!(rt; join_in(words.as_slice()), Some(join), "of {text}");
+    }
+    Ok(())
 }
 
 #[test]
@@ -470,7 +527,8 @@ fn scripts_are_played(rt: HostRuntime) {
         ),
     ];
     for (script, setup, status, text, line) in cases {
-        let ended = run_words(&rt, &["schedule", "i"], script, b"", setup);
+        let words = words_in(rt.alloc(), "schedule i").expect(&rt, "memory");
+        let ended = run_words(&rt, words.as_slice(), script, b"", setup);
         let ended = ended.expect(&rt, "memory");
         assert_eq!(rt; ended.status, status);
         assert_eq!(rt; ended.out.taken(), text);

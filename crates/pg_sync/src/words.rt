@@ -1,7 +1,8 @@
 //! The words of a command.
 
-ghost use Rattle.std.specs.Prelude.{◌≡◌, length, map, option_map, string_bytes, IfSome};
-ghost use Rattle.pg_sync.specs.Words.{HasPlan, HasRows, command_of, is_input, is_join, make_of, schedule_of, task_in, workers_of};
+ghost use Rattle.std.specs.Prelude.{◌≡◌, ◌<◌, ◌≤◌, map, option_map, string_bytes, IfSome};
+ghost use Rattle.std.specs.Int.{IsPowerOfTwo};
+ghost use Rattle.pg_sync.specs.Words.{HasPlan, HasRows, IsPlan, add_option, buckets_of, command_of, is_input, job_at, job_of, join_of, make_of, mem_of, no_options, options_at, plan_of, read_options, schedule_of, task_in, workers_of};
 
 use decimal_word::number_of;
 use row_model::Plan;
@@ -27,14 +28,42 @@ pub enum Command<'w> {
     Make { rows: u32, start: u32, workers: u32 },
 }
 
+// The options of a join, as far as words give them.
+#[derive(Clone, Copy)]
+struct OptionWords<'w> {
+    inner_key: Option<&'w str>,
+    outer_key: Option<&'w str>,
+    workers: Option<u32>,
+    buckets: Option<u32>,
+    mem: Option<u32>,
+}
+
 // The number of workers that a word names.
 fn workers_of(word: &str) -> Option<u32>
-    ensures { result ≡ workers_of word.now }
+    ensures number { result ≡ workers_of word.now }
+    ensures range { IfSome result (λ n. (0 < n) × (n ≤ 16)) }
 {
-    match number_of(word.as_bytes(), 1, 1) {
-        Some(workers) => Some(workers as u32),
-        None => None,
+    Some(number_of(word.as_bytes(), 1, 16)? as u32)
+}
+
+// The number of buckets that a word names.
+fn buckets_of(word: &str) -> Option<u32>
+    ensures number { result ≡ buckets_of word.now }
+    ensures range { IfSome result (λ n. IsPowerOfTwo n × (n ≤ 262144)) }
+{
+    let buckets = number_of(word.as_bytes(), 1, 262_144)?;
+    if !buckets.is_power_of_two() {
+        return None;
     }
+    Some(buckets as u32)
+}
+
+// The number of rows that a word allows a batch.
+fn mem_of(word: &str) -> Option<u32>
+    ensures number { result ≡ mem_of word.now }
+    ensures range { IfSome result (λ n. (0 < n) × (n ≤ 262144)) }
+{
+    Some(number_of(word.as_bytes(), 1, 262_144)? as u32)
 }
 
 // Whether a word may name an input: it isn't empty and is no option.
@@ -44,101 +73,128 @@ fn is_input(word: &str) -> bool
     !word.is_empty() && !word.starts_with("--")
 }
 
-// Whether the words that stand around the names are those of a join.
-fn is_join(
-    verb: &str,
-    inner: &str,
-    outer: &str,
-    first: &str,
-    second: &str,
-    third: &str,
-    workers: &str,
-) -> bool
-    ensures { result ≡ is_join verb.now inner.now outer.now first.now second.now third.now workers.now }
+// How a join with these options is to run.
+fn plan_of(given: OptionWords<'_>) -> Plan
+    ensures { result ≡ plan_of (options_at given.entry) }
 {
-    verb == "join"
-        && is_input(inner)
-        && is_input(outer)
-        && first == "--inner-key"
-        && second == "--outer-key"
-        && third == "--workers"
-        && workers_of(workers).is_some()
+    Plan {
+        workers: given.workers.unwrap_or(4),
+        buckets: given.buckets.unwrap_or(1024),
+        mem: given.mem.unwrap_or(65_536),
+    }
 }
 
-// The join that nine words name.
-fn read_join<'w>(words: &'w [String]) -> Option<Command<'w>>
-    requires { length words.now ≡ 9 }
-    ensures command { option_map task_in result ≡ command_of (map string_bytes words.now) }
-    ensures plan { IfSome result HasPlan }
-    ensures rows { IfSome result HasRows }
+// The options with one more, by its name and its value.
+#[tactic(auto, unfolding(crate::specs::Words::add_option))]
+fn add_option<'w>(given: OptionWords<'w>, name: &str, value: &'w str) -> Option<OptionWords<'w>>
+    requires { IsPlan (plan_of (options_at given)) }
+    ensures options { option_map options_at result ≡ add_option (options_at given.entry) name.now value.entry.now }
+    ensures plan { IfSome result (λ more. IsPlan (plan_of (options_at more))) }
 {
-    let verb = words[0].as_str();
-    let inner = words[1].as_str();
-    let outer = words[2].as_str();
-    let first = words[3].as_str();
-    let inner_key = words[4].as_str();
-    let second = words[5].as_str();
-    let outer_key = words[6].as_str();
-    let third = words[7].as_str();
-    let workers = words[8].as_str();
-    if !is_join(verb, inner, outer, first, second, third, workers) {
-        return None;
+    match name {
+        "--inner-key" if given.inner_key.is_none() => Some(OptionWords {
+            inner_key: Some(value),
+            ..given
+        }),
+        "--outer-key" if given.outer_key.is_none() => Some(OptionWords {
+            outer_key: Some(value),
+            ..given
+        }),
+        "--workers" if given.workers.is_none() => Some(OptionWords {
+            workers: Some(workers_of(value)?),
+            ..given
+        }),
+        "--buckets" if given.buckets.is_none() => Some(OptionWords {
+            buckets: Some(buckets_of(value)?),
+            ..given
+        }),
+        "--mem" if given.mem.is_none() => Some(OptionWords {
+            mem: Some(mem_of(value)?),
+            ..given
+        }),
+        _ => None,
     }
-    Some(Command::Join(JoinWords {
+}
+
+// The options that words name, each by a name and a value.
+#[tactic(auto, unfolding(crate::specs::Words::read_options))]
+fn read_options<'w>(words: &'w [String]) -> Option<OptionWords<'w>>
+    ensures options { option_map options_at result ≡ read_options no_options (map string_bytes words.entry.now) }
+    ensures plan { IfSome result (λ given. IsPlan (plan_of (options_at given))) }
+{
+    let mut given = OptionWords {
+        inner_key: None,
+        outer_key: None,
+        workers: None,
+        buckets: None,
+        mem: None,
+    };
+    let mut left = words;
+    'options: while let [name, value, more @ ..] = left {
+        given = add_option(given, name.as_str(), value.as_str())?;
+        left = more;
+    }
+    if left.is_empty() { Some(given) } else { None }
+}
+
+// The join of two inputs with these options.
+fn job_of<'w>(inner: &'w str, outer: &'w str, given: OptionWords<'w>) -> Option<JoinWords<'w>>
+    ensures job { option_map job_at result ≡ job_of inner.entry.now outer.entry.now (options_at given.entry) }
+    ensures plan { IfSome result (λ job. job.plan ≡ plan_of (options_at given.entry)) }
+{
+    Some(JoinWords {
         inner,
         outer,
-        inner_key,
-        outer_key,
-        plan: Plan {
-            workers: 1,
-            buckets: 1024,
-            mem: 65536,
-        },
-    }))
+        inner_key: given.inner_key?,
+        outer_key: given.outer_key?,
+        plan: plan_of(given),
+    })
 }
 
-// What a word, `schedule`, and a name ask for.
-fn schedule_of<'w>(verb: &str, name: &'w str) -> Option<Command<'w>>
-    ensures command { option_map task_in result ≡ schedule_of verb.now name.now }
+// What the words after `join` ask for.
+#[tactic(auto, unfolding(crate::specs::Words::join_of))]
+fn join_of<'w>(words: &'w [String]) -> Option<Command<'w>>
+    ensures command { option_map task_in result ≡ join_of (map string_bytes words.entry.now) }
     ensures plan { IfSome result HasPlan }
     ensures rows { IfSome result HasRows }
 {
-    if verb != "schedule" || !is_input(name) {
+    let [inner, outer, options @ ..] = words else {
+        return None;
+    };
+    if !is_input(inner) || !is_input(outer) {
         return None;
     }
-    Some(Command::Schedule(name))
+    let given = read_options(options)?;
+    let job = job_of(inner, outer, given)?;
+    Some(Command::Join(job))
 }
 
-// What two words ask for.
-fn read_schedule<'w>(words: &'w [String]) -> Option<Command<'w>>
-    requires { length words.now ≡ 2 }
-    ensures command { option_map task_in result ≡ command_of (map string_bytes words.now) }
+// What the words after `schedule` ask for.
+#[tactic(auto, unfolding(crate::specs::Words::schedule_of))]
+fn schedule_of<'w>(words: &'w [String]) -> Option<Command<'w>>
+    ensures command { option_map task_in result ≡ schedule_of (map string_bytes words.entry.now) }
     ensures plan { IfSome result HasPlan }
     ensures rows { IfSome result HasRows }
 {
-    let verb = words[0].as_str();
-    let name = words[1].as_str();
-    schedule_of(verb, name)
-}
-
-// What a word, `make`, and the three after it ask for.
-fn make_of<'w>(verb: &str, rows: &str, start: &str, workers: &str) -> Option<Command<'w>>
-    ensures command { option_map task_in result ≡ make_of verb.now rows.now start.now workers.now }
-    ensures plan { IfSome result HasPlan }
-    ensures rows { IfSome result HasRows }
-{
-    if verb != "make" {
-        return None;
+    match words {
+        [name] if is_input(name) => Some(Command::Schedule(name)),
+        _ => None,
     }
-    let Some(rows) = number_of(rows.as_bytes(), 1, 65_536) else {
+}
+
+// What the words after `make` ask for.
+#[tactic(auto, unfolding(crate::specs::Words::make_of))]
+fn make_of<'w>(words: &'w [String]) -> Option<Command<'w>>
+    ensures command { option_map task_in result ≡ make_of (map string_bytes words.entry.now) }
+    ensures plan { IfSome result HasPlan }
+    ensures rows { IfSome result HasRows }
+{
+    let [rows, start, workers] = words else {
         return None;
     };
-    let Some(start) = number_of(start.as_bytes(), 0, 4_294_967_295) else {
-        return None;
-    };
-    let Some(workers) = workers_of(workers) else {
-        return None;
-    };
+    let rows = number_of(rows.as_bytes(), 1, 65_536)?;
+    let start = number_of(start.as_bytes(), 0, 4_294_967_295)?;
+    let workers = workers_of(workers)?;
     Some(Command::Make {
         rows: rows as u32,
         start: start as u32,
@@ -146,33 +202,21 @@ fn make_of<'w>(verb: &str, rows: &str, start: &str, workers: &str) -> Option<Com
     })
 }
 
-// What four words ask for.
-fn read_make<'w>(words: &'w [String]) -> Option<Command<'w>>
-    requires { length words.now ≡ 4 }
-    ensures command { option_map task_in result ≡ command_of (map string_bytes words.now) }
-    ensures plan { IfSome result HasPlan }
-    ensures rows { IfSome result HasRows }
-{
-    let verb = words[0].as_str();
-    let rows = words[1].as_str();
-    let start = words[2].as_str();
-    let workers = words[3].as_str();
-    make_of(verb, rows, start, workers)
-}
-
-/// The command that the words name, None exactly where they name none.
+/// The command that the words name, None exactly where they name none. The options of a join stand in any
+/// order, each once at most; one that isn't given has its default.
+#[tactic(auto, unfolding(crate::specs::Words::command_of))]
 pub fn read_words<'w>(words: &'w [String]) -> Option<Command<'w>>
     ensures command { option_map task_in result ≡ command_of (map string_bytes words.now) }
     ensures plan { IfSome result HasPlan }
     ensures rows { IfSome result HasRows }
 {
-    if words.len() == 9 {
-        read_join(words)
-    } else if words.len() == 4 {
-        read_make(words)
-    } else if words.len() == 2 {
-        read_schedule(words)
-    } else {
-        None
+    let [verb, words @ ..] = words else {
+        return None;
+    };
+    match verb.as_str() {
+        "join" => join_of(words),
+        "schedule" => schedule_of(words),
+        "make" => make_of(words),
+        _ => None,
     }
 }

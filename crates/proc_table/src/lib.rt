@@ -2,6 +2,7 @@
 //! the gate that a worker passes, and a counter of steps.
 #![tactic(auto)]
 
+mod count;
 mod gate;
 mod numbers;
 mod steps;

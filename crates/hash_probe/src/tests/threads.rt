@@ -1,9 +1,17 @@
-//! Workers join in threads of their own: at will, and one of them late and held up at a batch.
-ghost use Rattle.std.specs.Prelude.{◌≡◌, [], None};
+//! Workers join in threads of their own: at will, and three of them when the first batch is in a given phase.
+ghost use Rattle.std.specs.Prelude.{◌≡◌, ◌<◌, ◌≤◌, [], ◌∷◌, None};
+ghost use Rattle.signal_core.specs.Machine.{IsJoined};
+ghost use Rattle.join_law.specs.Phases.{RUN, build as bar};
 ghost use Rattle.join_party.specs.Workers.{IsAt, IsNumbered};
 ghost use Rattle.hash_build.specs.Builds.{Begins};
+ghost use Rattle.hash_probe.specs.Rows.{times_done};
+ghost use Rattle.hash_probe.specs.Working.{IsCounted, IsWorking};
 
 use super::*;
+use crate::batches::{barrier_of, go_on, leave_last, leave_unless_last};
+use crate::loads::load;
+use crate::stores::probe_store;
+use phase_barrier::attach;
 use std::sync::atomic::{AtomicU64, Ordering};
 use std::thread::{Threads, map_vec, yield_now};
 
@@ -162,40 +170,62 @@ fn wait_for(count: &AtomicU64, high: u64) {
     }
 }
 
-// Lets worker 0 begin once another has come to a batch, after so many looks more. Where it then
-// finds a batch at PROBE, it is held up there until all others have left.
+// Worker 0 goes through the first batch phase by phase, and is held up in one until three others have found
+// the batch in it, or have left the join. They begin when it is there.
 #[derive(Drop)]
-struct Late {
-    looks: u32,
-    others: u64,
+struct PhaseGate {
+    phase: u64,
+    until_left: bool,
+    there: AtomicU64,
     come: AtomicU64,
-    held: AtomicU64,
     left: AtomicU64,
+    // How many had come, or left, when worker 0 went on.
+    met: AtomicU64,
 }
 
-impl Late {
-    fn begin(&self) {
-        wait_for(&self.come, 1);
-        for _ in 0..self.looks {
-            self.left.load(Ordering::SeqCst);
+const OTHERS: u64 = 3;
+
+impl PhaseGate {
+    fn new(phase: u64, until_left: bool) -> PhaseGate {
+        PhaseGate {
+            phase,
+            until_left,
+            there: AtomicU64::new(0),
+            come: AtomicU64::new(0),
+            left: AtomicU64::new(0),
+            met: AtomicU64::new(0),
         }
     }
 
-    fn find(&self, worker: u32, phase: u64) {
-        if worker != 0 {
-            self.come.store(1, Ordering::SeqCst);
-        } else if phase == 3 {
-            self.held.store(1, Ordering::SeqCst);
-            wait_for(&self.left, self.others);
+    // Worker 0 is in a phase of the batch, which doesn't pass before it goes on.
+    fn hold(&self, phase: u64) {
+        if phase == self.phase {
+            self.there.store(1, Ordering::SeqCst);
+            let awaited = if self.until_left {
+                &self.left
+            } else {
+                &self.come
+            };
+            wait_for(awaited, OTHERS);
+            self.met
+                .store(awaited.load(Ordering::SeqCst), Ordering::SeqCst);
+        }
+    }
+
+    // Another has found the batch in a phase.
+    fn find(&self, phase: u64) {
+        if phase == self.phase {
+            self.come.fetch_add(1, Ordering::SeqCst);
         }
     }
 }
 
-impl Gate for Late {
+impl Gate for PhaseGate {
     fn at(&self, worker: u32, point: Point) {
         match point {
-            Point::Started if worker == 0 => self.begin(),
-            Point::Batch { phase, .. } => self.find(worker, phase),
+            _ if worker == 0 => {}
+            Point::Started => wait_for(&self.there, 1),
+            Point::Batch { batch: 0, phase } => self.find(phase),
             Point::Left => {
                 self.left.fetch_add(1, Ordering::SeqCst);
             }
@@ -204,62 +234,155 @@ impl Gate for Late {
     }
 }
 
-fn late_by(looks: u32, others: u64) -> Late {
-    Late {
-        looks,
-        others,
-        come: AtomicU64::new(0),
-        held: AtomicU64::new(0),
-        left: AtomicU64::new(0),
+// Goes through the first batch, to which nobody has attached yet.
+fn pass_first_batch<'r, R: Abort + Wait, L: Ledger>(
+    rt: &R,
+    tables: &JoinTables<'r>,
+    seats: &mut JoinSeats<'r>,
+    table: HashTable,
+    pairs: &mut Vec<Pair>,
+    marks: &mut Probed,
+    gate: &PhaseGate,
+    steps: &mut Steps<L>,
+)
+    requires working { IsWorking tables.now seats.old table ((bar, RUN) ∷ []) }
+    requires counted { IsCounted marks.old seats.old }
+    ensures working { IsWorking tables.now seats.new table ((bar, RUN) ∷ []) }
+    ensures counted { IsCounted marks.new seats.new }
+    ensures done { 1 ≤ times_done 0 seats.new.wait.view.client }
+{
+    let found = attach(rt, &tables.waits, &mut seats.wait, barrier_of(0));
+    assert!(rt; found == 0);
+    gate.hold(0);
+    go_on(rt, tables, seats, 0, 0);
+    gate.hold(1);
+    go_on(rt, tables, seats, 0, 1);
+    gate.hold(2);
+    load(rt, tables, seats, table, 0);
+    go_on(rt, tables, seats, 0, 2);
+    gate.hold(3);
+    probe_store(rt, tables, seats, 0, pairs, marks, steps);
+    if leave_unless_last(rt, tables, seats, 0) {
+        gate.hold(4);
+        leave_last(rt, tables, seats, 0);
+    }
+    gate.hold(5);
+}
+
+// Builds, goes through the first batch, and then through the others as any worker.
+fn work_ahead<'r, R: Abort + Wait, L: Ledger>(
+    rt: &R,
+    blank: Blank,
+    alloc: Global,
+    tables: &JoinTables<'r>,
+    seats: &mut JoinSeats<'r>,
+    gate: &PhaseGate,
+) -> Found
+    requires name { blank.name ≡ L.name }
+    requires parts { blank.parts ≡ L.parts }
+    requires some { 0 < blank.parts }
+    requires table { IsAt tables.now seats.old }
+    requires begins { Begins seats.old }
+    requires slot { (seats.old.signal.view.place ≡ None) × IsJoined seats.old.signal.view.slot }
+{
+    let mut steps = Steps::<L>::new(blank);
+    let mut pairs = Vec::new(alloc);
+    let mut marks = unmarked(0);
+    let Built::Ready {
+        buckets,
+        batches,
+        ..
+    } = build(rt, tables, seats, 0, gate, &mut steps)
+    else {
+        return None;
+    };
+    let table = HashTable { buckets, batches };
+    pass_first_batch(
+        rt, tables, seats, table, &mut pairs, &mut marks, gate, &mut steps,
+    );
+    probe_batches(
+        rt, tables, seats, table, 1, batches, 0, &mut pairs, &mut marks, gate, &mut steps,
+    );
+    leave(rt, tables, seats);
+    Some((marks, pairs))
+}
+
+fn run_ahead<R: Abort + Wait>(rt: &R, alloc: Global, worker: Worker<'_, '_, PhaseGate>) -> Found {
+    let Worker {
+        tables,
+        mut seats,
+        gate,
+        ..
+    } = worker;
+    join_slot(&tables.signals, &mut seats.signal);
+    let found = work_ahead::<R, Brand>(rt, Blank::new(1), alloc, tables, &mut seats, gate);
+    mem::forget(seats);
+    found
+}
+
+fn run_either<R: Abort + Wait>(rt: &R, alloc: Global, worker: Worker<'_, '_, PhaseGate>) -> Found {
+    if worker.number == 0 {
+        run_ahead(rt, alloc, worker)
+    } else {
+        run(rt, alloc, worker)
     }
 }
 
-#[test]
-fn a_late_worker_changes_nothing(rt: HostRuntime) -> Result<(), Fail> {
-    let inner = mixed_keys(rt.alloc(), 1_000)?;
-    let outer = mixed_keys(rt.alloc(), 3_000)?;
-    let inner_rows = rows_of(rt.alloc(), inner.as_slice())?;
-    let outer_rows = rows_of(rt.alloc(), outer.as_slice())?;
-    let expected = meeting(&rt, rt.alloc(), inner.as_slice(), outer.as_slice());
+// What each of four workers found.
+fn join_in_phase<R: Abort + Threads + Wait + Sync>(
+    rt: &R,
+    alloc: Global,
+    inner: &Rows,
+    outer: &Rows,
+    gate: &PhaseGate,
+) -> Vec<Found> {
     let plan = Plan {
         workers: 4,
         buckets: 64,
         mem: 100,
     };
-    for round in 0..30u32 {
-        let gate = late_by(1 << (round % 15), 3);
-        let found = join_by(&rt, rt.alloc(), &inner_rows, &outer_rows, plan, 4, &gate);
-        let (probed, pairs) = gather(&rt, rt.alloc(), found);
-        assert!(rt; probed == count_keyed(outer.as_slice()));
-        assert!(rt; pairs.as_slice() == expected.as_slice());
-    }
-    Ok(())
+    let (tables, leader) = open(rt, alloc, inner, outer, plan);
+    let jobs = draw_all(rt, alloc, &tables, leader, 4, gate);
+    let found = map_vec(rt, jobs, &|worker| run_either(rt, alloc, worker));
+    mem::forget(tables);
+    let Ok(found) = found else {
+        panic!(rt; "no memory")
+    };
+    found
 }
 
-// One of two workers has two million pairs to find, so that the other comes meanwhile.
 #[test]
-fn a_worker_may_stay_at_probe_when_the_other_has_left(rt: HostRuntime) -> Result<(), Fail> {
-    let inner = equal_keys(rt.alloc(), 500)?;
-    let outer = equal_keys(rt.alloc(), 4_000)?;
+fn workers_may_come_in_each_phase_of_a_batch(rt: HostRuntime) -> Result<(), Fail> {
+    let inner = mixed_keys(rt.alloc(), 400)?;
+    let outer = mixed_keys(rt.alloc(), 1_200)?;
     let inner_rows = rows_of(rt.alloc(), inner.as_slice())?;
     let outer_rows = rows_of(rt.alloc(), outer.as_slice())?;
     let expected = meeting(&rt, rt.alloc(), inner.as_slice(), outer.as_slice());
-    let plan = Plan {
-        workers: 2,
-        buckets: 64,
-        mem: 1_000,
-    };
-    for _ in 0..20u32 {
-        let gate = late_by(50_000, 1);
-        let found = join_by(&rt, rt.alloc(), &inner_rows, &outer_rows, plan, 2, &gate);
+    // A phase of the batch, ELECT to FREE, and whether worker 0 stays in it until the others have left.
+    let cases = [
+        (0, false),
+        (1, false),
+        (2, false),
+        (3, false),
+        (3, true),
+        (4, false),
+        (4, true),
+        (5, false),
+    ];
+    for (phase, until_left) in cases {
+        let gate = PhaseGate::new(phase, until_left);
+        let found = join_in_phase(&rt, rt.alloc(), &inner_rows, &outer_rows, &gate);
+        let come = gate.come.load(Ordering::SeqCst);
+        let met = gate.met.load(Ordering::SeqCst);
+        assert!(rt;
+            come == OTHERS && met == OTHERS,
+            "phase {phase}: {come} came, {met} in time"
+        );
         let (probed, pairs) = gather(&rt, rt.alloc(), found);
-        assert!(rt; probed == 4_000);
-        assert!(rt; pairs.as_slice() == expected.as_slice());
-        if gate.held.load(Ordering::SeqCst) == 1 {
-            return Ok(());
-        }
+        assert!(rt; probed == count_keyed(outer.as_slice()), "phase {phase}");
+        assert!(rt; pairs.as_slice() == expected.as_slice(), "phase {phase}");
     }
-    panic!(rt; "never held up")
+    Ok(())
 }
 
 #[test]
