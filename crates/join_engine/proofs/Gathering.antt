@@ -77,4 +77,4 @@ with_sums t leader pairs said worker found told new all both number c before ste
     let first = sum_by-cons (λ (x : ℕ). x) c before in let last = sum_by-cons (λ (x : ℕ). x) d after in
     let some : length before + 1 ≡ length (c ∷ before) = omega arith in
     subst (λ (s : List ℕ). Together t new (length s) all both (sum s) (sum (d ∷ after))) (sym is)
-      (subst (λ (n : ℕ × (ℕ × ℕ)). Together t new n.0 all both n.1.0 n.1.1) (λ i. (some i, (sym first i, sym last i))) (adds (length before) number (sum before) (sum after) c d others one))
+    (subst (λ (n : ℕ × (ℕ × ℕ)). Together t new n.0 all both n.1.0 n.1.1) (λ i. (some i, (sym first i, sym last i))) (adds (length before) number (sum before) (sum after) c d others one))
