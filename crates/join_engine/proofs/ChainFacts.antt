@@ -11,7 +11,7 @@ use Rattle.std.proofs.lemmas.Slice.Eq.{bytes_eq-Decides}
 use Rattle.row_model.specs.declared.Pair.{Pair}
 use Rattle.row_model.specs.Table.{Table, is_present, key_of, meets, pairs_of}
 use Rattle.row_model.specs.Hash.{hash_of_key}
-use Rattle.join_engine.specs.Looks.{candidates, is_hash, look_bound, numbers, rows_from}
+use Rattle.join_engine.specs.Looks.{candidates, is_hash, hashed_look_bound, numbers, rows_from}
 use Rattle.join_engine.specs.Chains.{row_at, IsLinked}
 
 is_hash-some : (hash : ℕ) (o : Option ℕ) → is_hash hash o ≡ true → o ≡ Some hash
@@ -162,8 +162,8 @@ looks_from-step outer inner place lt =
     let more = ap (sum_by looks) (drop-numbers outer place lt) ∙ sum_by-cons looks place (drop (place + 1) (numbers outer)) in
     omega (arith, more)
 
-pub looks_from-all : (outer inner : Table) → length inner.rows + looks_from outer inner 0 ≡ look_bound outer inner
-unfolding look_bound
+pub looks_from-all : (outer inner : Table) → length inner.rows + looks_from outer inner 0 ≡ hashed_look_bound outer inner
+unfolding hashed_look_bound
 looks_from-all outer inner = omega arith
 
 -- one row more at the front

@@ -69,11 +69,12 @@ adds t leader pairs said worker found told new all both wait signal over short w
     }
 
 -- by what all counters said before and after
-pub with_sums : (t : JoinTables) (leader : JoinSeats) (pairs : List Pair) (said : Said) (worker : JoinSeats) (found : List Pair) (told : Said) (new : JoinSeats) (all : List Pair) (both : Said) (number c d : ℕ) (before after steps : List ℕ)
-    → Adds t leader pairs said worker found told new all both → Together t leader (length before) pairs said (sum before) (sum after) → HasWorked t worker number found told c d → steps ≡ c ∷ before
+pub with_sums : (t : JoinTables) (leader : JoinSeats) (pairs : List Pair) (said : Said) (worker : JoinSeats) (found : List Pair) (told : Said) (new : JoinSeats) (all : List Pair) (both : Said) (number c : ℕ) (before steps : List ℕ)
+    → Adds t leader pairs said worker found told new all both → steps ≡ c ∷ before
+    → (d : ℕ) (after : List ℕ) → Together t leader (length before) pairs said (sum before) (sum after) → HasWorked t worker number found told c d
     → Together t new (length steps) all both (sum steps) (sum (d ∷ after))
-with_sums t leader pairs said worker found told new all both number c d before after steps adds others one is =
+with_sums t leader pairs said worker found told new all both number c before steps adds is d after others one =
     let first = sum_by-cons (λ (x : ℕ). x) c before in let last = sum_by-cons (λ (x : ℕ). x) d after in
     let some : length before + 1 ≡ length (c ∷ before) = omega arith in
     subst (λ (s : List ℕ). Together t new (length s) all both (sum s) (sum (d ∷ after))) (sym is)
-      (subst (λ (n : ℕ × (ℕ × ℕ)). Together t new n.0 all both n.1.0 n.1.1) (λ i. (some i, (sym first i, sym last i))) (adds (length before) number (sum before) (sum after) c d others one))
+    (subst (λ (n : ℕ × (ℕ × ℕ)). Together t new n.0 all both n.1.0 n.1.1) (λ i. (some i, (sym first i, sym last i))) (adds (length before) number (sum before) (sum after) c d others one))

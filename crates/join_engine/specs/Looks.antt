@@ -23,5 +23,5 @@ candidates inner None = 0
 candidates inner (Some hash) = length (rows_from inner 0 hash)
 
 -- one look for each row of both tables, and for each outer row with a key one for each inner row whose key has the same hash
-unfoldable pub look_bound : Table → Table → ℕ
-look_bound outer inner = length inner.rows + length outer.rows + sum_by (λ o. candidates inner (hash_of_key (key_of outer o))) (numbers outer)
+unfoldable pub hashed_look_bound : Table → Table → ℕ
+hashed_look_bound outer inner = length inner.rows + length outer.rows + sum_by (λ o. candidates inner (hash_of_key (key_of outer o))) (numbers outer)

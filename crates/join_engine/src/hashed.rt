@@ -5,7 +5,7 @@ ghost use Rattle.row_model.specs.Hash.{hash_of_key};
 ghost use Rattle.row_model.specs.Table.{key_of, meets, nested_loop, pairs_of};
 ghost use Rattle.join_engine.specs.Chains.{IsChained};
 ghost use Rattle.join_engine.specs.Limit.{PairsShow, pair_limit};
-ghost use Rattle.join_engine.specs.Looks.{candidates, look_bound};
+ghost use Rattle.join_engine.specs.Looks.{candidates, hashed_look_bound};
 
 use crate::chains::Chains;
 use crate::{JoinFault, PAIR_LIMIT};
@@ -116,7 +116,7 @@ pub fn hashed_pairs<L: Ledger>(
     ensures pairs { IfOk result (λ v. v.items ≡ nested_loop outer.now inner.now) }
     ensures few { OnOk result (length (nested_loop outer.now inner.now) ≤ pair_limit) }
     ensures too_many { IfErr result (PairsShow (length (nested_loop outer.now inner.now))) }
-    ensures looks { steps.new ≤ steps.old + look_bound outer.now inner.now }
+    ensures looks { steps.new ≤ steps.old + hashed_look_bound outer.now inner.now }
 {
     let chains = Chains::of(alloc, inner, steps)?;
     let mut pairs = Vec::new(alloc);

@@ -7,10 +7,10 @@ pub returns-in_default-clause-together : goal.returns-in_default-clause-together
 returns-in_default-clause-together g t c =
     let none : 0 ≡ length c.args.steps.now = search rules in
     subst (λ (n : ℕ). Together c.args.shared.now.tables.now c.args.leader.now n c.args.pairs.now.items (record { over = None; short = false }) (sum c.args.steps.now) (sum c.args.steps.now)) none
-      (nobody c.args.shared.now.tables.now c.args.leader.now c.args.pairs.now.items (sum c.args.steps.now) c.requires.idle c.requires.pairs)
+    (nobody c.args.shared.now.tables.now c.args.leader.now c.args.pairs.now.items (sum c.args.steps.now) c.requires.idle c.requires.pairs)
 
 pub returns-clause-leader : goal.returns-clause-leader
-returns-clause-leader g t c = 
+returns-clause-leader g t c =
     let number : ℕ = c.args.shared.now.tables.now.plan.workers - length c.args.steps.now in
     let one_more : length c.in-Some.rest.now + 1 ≡ length c.args.steps.now = search rules in
     subst (IsLeader c.gather.new.leader c.args.shared.now.tables.now.plan.workers) one_more (c.gather.ensures.leader c.args.shared.now.tables.now.plan.workers (length c.in-Some.rest.now) (number + 1) (search rules) (search rules))
@@ -19,4 +19,5 @@ pub returns-clause-together : goal.returns-clause-together
 returns-clause-together g t c =
     let number : ℕ = c.args.shared.now.tables.now.plan.workers - length c.args.steps.now in
     let is : c.args.steps.now ≡ c.in-Some.first.now ∷ c.in-Some.rest.now = search rules in
-    with_sums c.args.shared.now.tables.now _ _ _ _ _ _ c.gather.new.leader c.gather.new.pairs.items c.gather.result (number + 1) c.in-Some.first.now c.first-2-1.given.0 c.in-Some.rest.now c.rest-1.given.0 c.args.steps.now c.gather.ensures.together (search rules) (search rules) is
+    let counted = with_sums c.args.shared.now.tables.now _ _ _ _ _ _ c.gather.new.leader c.gather.new.pairs.items c.gather.result (number + 1) c.in-Some.first.now c.in-Some.rest.now c.args.steps.now c.gather.ensures.together is in
+    search (rules, counted)
