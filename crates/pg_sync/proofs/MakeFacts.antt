@@ -1,6 +1,5 @@
 -- Laws of the generator, of the tables that it makes, and of the total of their pairs.
 use Rattle.std.proofs.Common.{◌≡◌, ◌∙◌, ℕ, zero, suc, ◌+◌, ◌≤◌, List, [], ◌∷◌, ◌++◌, length, map, take, drop, codes, None, Option, refl, sym, ap, subst, zero-add, arith}
-use Rattle.std.specs.Prelude.{decimal, fold}
 use Rattle.std.proofs.lemmas.List.{length-map, map-append}
 use Rattle.row_model.specs.declared.Pair.{Pair}
 use Rattle.row_model.specs.Table.{Table, nested_loop}
@@ -10,7 +9,7 @@ use Rattle.row_model.proofs.BuildFacts.{row_fault-none}
 use Rattle.pg_sync.specs.declared.status.Status.{Status}
 use Rattle.pg_sync.specs.Answer.{JoinShows}
 use Rattle.pg_sync.specs.Tallies.{made_sizes, table_sizes}
-use Rattle.pg_sync.specs.Make.{add_pair, drawn_key, drawn_table, made_inner, made_outer, made_pairs, made_text, next_state, pairs_text, state_after, states_after}
+use Rattle.pg_sync.specs.Make.{drawn_key, drawn_table, made_inner, made_outer, made_pairs, made_text, next_state, pairs_text, state_after, states_after}
 
 -- the generator's states, cut in two
 states-split : (x m n : ℕ) → states_after x (m + n) ≡ states_after x m ++ states_after (state_after x m) n

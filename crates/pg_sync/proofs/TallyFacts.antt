@@ -1,5 +1,5 @@
 -- What a join that is done is of, and what is told of it.
-use Rattle.std.proofs.Common.{◌≡◌, ◌∙◌, length, ap}
+use Rattle.std.proofs.Common.{◌≡◌, ◌∙◌, length}
 use denote.Ref.{Bor}
 use Rattle.row_model.specs.declared.Plan.{Plan}
 use Rattle.row_model.specs.Table.{Table, nested_loop}

@@ -15,7 +15,7 @@ use crate::status::Status;
 use crate::words::JoinWords;
 use csv_tables::{Inputs, LoadFault, PrintFault, Sink, load, print};
 use join_engine::{JoinFault, Tally, join_rows};
-use proc_table::{Gate, Steps};
+use proc_table::Gate;
 use row_model::{Plan, Rows, Side};
 use std::alloc::Global;
 use std::marker::{Brand, Send, Sync};
