@@ -1,5 +1,5 @@
 -- A join when all its workers have left.
-use Rattle.std.proofs.Common.{◌≡◌, ℕ, ◌+◌, ◌<◌, ◌≤◌, false, List, [], length, refl, sym, ap, ◌∙◌, subst, arith, Some, None}
+use Rattle.std.proofs.Common.{◌≡◌, ℕ, ◌+◌, ◌<◌, ◌≤◌, false, List, length, sym, ap, ◌∙◌, subst, arith, Some, None}
 use Rattle.seat_roster.specs.Roster.{times}
 use Rattle.row_model.specs.declared.Pair.{Pair}
 use Rattle.row_model.specs.Table.{key_of, nested_loop}

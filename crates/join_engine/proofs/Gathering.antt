@@ -1,5 +1,5 @@
 -- How the leader draws workers and takes them in.
-use Rattle.std.proofs.Common.{◌≡◌, ℕ, ◌+◌, ◌-◌, ◌≤◌, Bool, true, false, ◌||◌, List, [], ◌++◌, length, sum, ◌∷◌, refl, sym, ap, ◌∙◌, subst, arith, Some, None, Option}
+use Rattle.std.proofs.Common.{◌≡◌, ℕ, ◌+◌, ◌-◌, Bool, false, ◌||◌, List, [], ◌++◌, length, sum, ◌∷◌, refl, sym, ap, ◌∙◌, subst, arith, None, Option}
 use Rattle.std.proofs.lemmas.List.Sums.{sum_by-cons}
 use Rattle.row_model.specs.declared.Pair.{Pair}
 use Rattle.lw_core.specs.declared.view.View as lock
@@ -10,13 +10,12 @@ use Rattle.signal_core.specs.declared.view.SigView.{SigView}
 use Rattle.signal_core.specs.Seating as signals
 use Rattle.join_law.specs.declared.view.HashView.{HashView}
 use Rattle.join_law.specs.Views.{both_views}
-use Rattle.join_party.specs.declared.party.HashParty.{HashParty}
 use Rattle.join_party.specs.declared.tables.JoinSeats.{JoinSeats}
 use Rattle.join_party.specs.declared.tables.JoinTables.{JoinTables}
 use Rattle.join_party.specs.Workers.{IsDrawn}
 use Rattle.join_end.specs.declared.worker.Said.{Said}
 use Rattle.join_end.specs.Ends.{Ended}
-use Rattle.join_end.specs.Works.{Did, HasDone, Work, both_work, either_over, work_of}
+use Rattle.join_end.specs.Works.{HasDone, Work, both_work, either_over, work_of}
 use Rattle.join_end.specs.Workers.{IsNew}
 use Rattle.join_end.proofs.Gathers.{done_both}
 use Rattle.join_end.proofs.Workers.{drawn_free, drawn_new, nothing_did}

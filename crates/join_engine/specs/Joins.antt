@@ -6,7 +6,6 @@ use Rattle.row_model.specs.declared.Plan.{Plan}
 use Rattle.row_model.specs.Table.{Table, key_of, nested_loop}
 use Rattle.row_model.specs.Hash.{hash_of_key}
 use Rattle.join_law.specs.Views.{probed_rows}
-use Rattle.join_party.specs.declared.party.HashParty.{HashParty}
 use Rattle.join_end.specs.Last.{IsLast}
 use Rattle.join_engine.specs.declared.joined.Joined.{Joined}
 use Rattle.join_engine.specs.declared.tally.JoinSizes.{JoinSizes}

@@ -1,4 +1,4 @@
-use Rattle.std.proofs.Common.{◌≡◌, ℕ, ◌+◌, ◌-◌, ◌<◌, ◌≤◌, List, length, sum, arith, rules, sym, ap, ◌∙◌, subst}
+use Rattle.std.proofs.Common.{◌≡◌, ℕ, ◌+◌, ◌-◌, ◌<◌, ◌≤◌, length, sum, arith, rules, sym, ap, ◌∙◌, subst}
 use Rattle.seat_roster.specs.Roster.{times}
 use Rattle.row_model.specs.Table.{Table, nested_loop}
 use Rattle.wait_core.specs.declared.view.WaitView.{WaitView}

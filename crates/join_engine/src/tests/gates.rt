@@ -73,14 +73,13 @@ fn a_worker_may_begin_when_the_others_have_left(rt: HostRuntime) -> Result<(), F
     Ok(())
 }
 
-// Worker `held` begins when the one ahead of it has come to a second batch, where that stays until `held`
-// has come to a batch. The first batch that `held` finds in PROBE or a later phase it keeps until all
-// others have left.
+// Worker `ahead` is alone until it comes to a second batch, where it stays until worker `held` has come to
+// a batch. The first batch that `held` finds in PROBE or a later phase it keeps until all others have left.
 #[derive(Drop)]
 struct StaysLast {
     held: u32,
     ahead: u32,
-    // How many batches the one ahead has come to, and how many `held` has.
+    // How many batches `ahead` has come to, and how many `held` has.
     passed: AtomicU64,
     come: AtomicU64,
     left: AtomicU64,
@@ -114,7 +113,7 @@ impl StaysLast {
 impl Gate for StaysLast {
     fn at(&self, worker: u32, point: Point) {
         match point {
-            Point::Started if worker == self.held => wait_for(&self.passed, 2),
+            Point::Started if worker != self.ahead => wait_for(&self.passed, 2),
             Point::Batch { phase, .. } => self.find(worker, phase),
             Point::Left => {
                 self.left.fetch_add(1, Ordering::SeqCst);

@@ -1,4 +1,4 @@
-use Rattle.std.proofs.Common.{◌≡◌, ◌+◌, ◌-◌, ◌∷◌, ℕ, None, false, length, sum, rules, arith, subst}
+use Rattle.std.proofs.Common.{◌≡◌, ◌+◌, ◌-◌, ◌∷◌, ℕ, None, false, length, sum, rules, subst}
 use Rattle.join_engine.specs.Workers.{IsLeader, Together}
 use Rattle.join_engine.proofs.Gathering.{nobody, with_sums}
 use Rattle.join_engine.proofs.workers.+workers.Goals as goal

@@ -1,4 +1,4 @@
-use Rattle.std.proofs.Common.{ℕ, ◌+◌, ◌*◌, length}
+use Rattle.std.proofs.Common.{◌+◌, ◌*◌, length}
 use Rattle.join_engine.proofs.workers.+workers.Given as goal
 
 abbrev pub decreases-run_last : goal.decreases-run_last

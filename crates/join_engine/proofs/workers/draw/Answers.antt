@@ -1,4 +1,3 @@
-use Rattle.std.proofs.Common.{◌+◌}
 use Rattle.join_engine.proofs.Gathering.{worker_ready}
 use Rattle.join_engine.proofs.workers.draw.Goals as goal
 
