@@ -1,5 +1,7 @@
 -- The laws of the join as a client of barriers: where everything stands is kept, whatever a seat does.
-use Rattle.std.proofs.Common.{◌≡◌, ℕ, zero, suc, ◌<◌, List, [], ◌∷◌, ◌++◌, get_or, set, refl, sym, ap, ◌∙◌, subst, arith, Some, get_or-set_same, get_or-set_other}
+use Rattle.std.proofs.Common.{◌≡◌, ℕ, suc, ◌<◌, ◌≤◌, List, [], ◌∷◌, ◌++◌, get_or, set, refl, sym, ap, ◌∙◌, subst, arith, Some, get_or-set_same, get_or-set_other}
+use mathlib.Core.Logic.{dite}
+use native.Mathlib.Decide.{ℕ_discrete}
 use Rattle.wait_core.specs.Ops.{op_at, op_gives}
 use Rattle.wait_core.specs.Parties.{with_client, newcomer, joined, left_over, elected, now, IsStep, IsJoin, IsEnter, IsNotice, IsElection, IsPass, IsLeave}
 use Rattle.join_law.specs.declared.step.HashStep.{HashStep}
@@ -9,7 +11,8 @@ use Rattle.join_law.specs.Layout.{Join, Memory, place, Inside, read, write, word
 use Rattle.join_law.specs.Views.{View, first_view, spent_view, both_views}
 use Rattle.join_law.specs.Machine.{step_op, word_of, spot, May, after}
 use Rattle.join_law.specs.Quiet.{Quiet, Passes, Enters, Stays}
-use Rattle.join_law.specs.Stands.{There, Parts, Stands, RowsMeet, BuildEnds}
+use Rattle.join_law.specs.Stands.{There, Parts, Stands, RowsMeet, PhasesEnd}
+use Rattle.join_law.specs.Phases.{FREE, last_batch_growth, last_bucket_growth}
 use Rattle.join_law.proofs.Flat.{flat_read, flat_write, place_below}
 use Rattle.join_law.proofs.Steps as steps
 use Rattle.join_law.proofs.PassKeeps as pass
@@ -116,7 +119,7 @@ module _ (j : Join) (words : List ℕ) (views : List View) (phases : List ℕ) (
     ends = h.ends;
   }
 
-  pub enter_keeps : (id : ℕ) (v w : View) (bar : ℕ) → IsEnter views phases id v w bar → Enters j v bar → Stands j words (set views id w) phases
+  pub enter_keeps : (id : ℕ) (v w : View) (bar : ℕ) → IsEnter views phases id v w bar → Enters v bar → Stands j words (set views id w) phases
   enter_keeps id v w bar s may = attached_keeps id v w s.at s.after.proc s.after.client (moves.enter_keeps j m h.lists h.growth views phases h.parts id v w bar s may)
 
   pub notice_keeps : (id : ℕ) (v w : View) (bar ph : ℕ) → IsNotice views phases id v w bar ph → Stands j words (set views id w) phases
@@ -128,10 +131,22 @@ module _ (j : Join) (words : List ℕ) (views : List View) (phases : List ℕ) (
   pub leave_keeps : (id : ℕ) (v w : View) (bar ph : ℕ) → IsLeave Stays views phases id v w bar ph → Quiet j v bar ph → Stands j words (set views id w) phases
   leave_keeps id v w bar ph s quiet = attached_keeps id v w s.at s.after.proc s.after.client (moves.leave_keeps j m h.lists h.growth views phases h.parts id v w bar ph s quiet)
 
-  -- a phase of the build passes only before FREE
-  build_ends : (bar : ℕ) → Passes bar (now phases bar) → BuildEnds (set phases bar (suc (now phases bar)))
-  build_ends zero passes = let length_is = h.parts.bars in let is = get_or-set_same phases 0 (suc (now phases 0)) 0 (omega arith) in omega arith
-  build_ends (suc bar) passes = let same = get_or-set_other phases (suc bar) 0 (suc (now phases (suc bar))) 0 (λ e. absurd (omega arith)) in let end = h.ends in omega arith
+  -- a phase passes only before its barrier's last one
+  phases_end : (bar : ℕ) → Passes bar (now phases bar) → PhasesEnd (set phases bar (suc (now phases bar)))
+  phases_end bar passes = record {
+    of_build = ends_by 0 FREE h.ends.of_build (λ here. subst (λ (b : ℕ). Passes b (now phases b)) here passes) (omega arith);
+    of_batches = ends_by 1 last_batch_growth h.ends.of_batches (λ here. subst (λ (b : ℕ). Passes b (now phases b)) here passes) (omega arith);
+    of_buckets = ends_by 2 last_bucket_growth h.ends.of_buckets (λ here. subst (λ (b : ℕ). Passes b (now phases b)) here passes) (omega arith);
+  }
+    where
+      ends_by : (b last : ℕ) → now phases b ≤ last → (bar ≡ b → now phases b < last) → b < 67 → now (set phases bar (suc (now phases bar))) b ≤ last
+      ends_by b last end before few = dite (ℕ_discrete bar b)
+          (λ here.
+          let length_is = h.parts.bars in
+          let is = get_or-set_same phases b (suc (now phases b)) 0 (omega arith) in
+          let less = before here in
+          subst (λ (c : ℕ). now (set phases c (suc (now phases c))) b ≤ last) (sym here) (omega arith))
+          (λ other. let same = get_or-set_other phases bar b (suc (now phases bar)) 0 (λ e. other (sym e)) in omega arith)
 
   -- a phase passes
   pub pass_keeps : (bar id : ℕ) (v : View) → IsPass (Quiet j) views phases bar id v → Passes bar (now phases bar) → Stands j words views (set phases bar (suc (now phases bar)))
@@ -143,5 +158,5 @@ module _ (j : Join) (words : List ℕ) (views : List View) (phases : List ℕ) (
     parts = pass.pass_keeps j m h.lists h.growth views phases h.parts bar id v s;
     left = h.left;
     claims = h.claims;
-    ends = build_ends bar passes;
+    ends = phases_end bar passes;
   }

@@ -6,7 +6,7 @@ use Rattle.seat_roster.specs.Roster.{times}
 use Rattle.seat_roster.proofs.Totals.{total_at}
 use Rattle.seat_roster.proofs.Numbers.{times_append}
 use Rattle.wait_core.specs.Ops.{op_at}
-use Rattle.wait_core.specs.Parties.{IsStep}
+use Rattle.wait_core.specs.Parties.{Elected, IsStep}
 use Rattle.row_model.specs.declared.Side.TheVariants as side
 use Rattle.join_law.specs.declared.step.HashStep.{HashStep}
 use Rattle.join_law.specs.declared.step.HashStep.TheVariants.{Load, Take, AddResults}
@@ -15,7 +15,7 @@ use Rattle.join_law.specs.declared.step.Look.TheVariants as look
 use Rattle.join_law.specs.declared.step.Word.TheVariants as word
 use Rattle.join_law.specs.Layout.{Join, Inside, sizes_of, place, read, rows, heads}
 use Rattle.join_law.specs.Routes.{batch_of, chain_at}
-use Rattle.join_law.specs.Phases.{build, batch_bar, HASH_OUTER, RUN, FREE, LOAD, PROBE, growth_place, known_word}
+use Rattle.join_law.specs.Phases.{build, batch_bar, batch_growth, bucket_growth, last_batch_growth, last_bucket_growth, HASH_OUTER, RUN, FREE, LOAD, PROBE, growth_place, known_word}
 use Rattle.join_law.specs.Views.{View, below, held, results_of, partners}
 use Rattle.join_law.specs.declared.view.Known.{Known}
 use Rattle.join_law.specs.declared.view.Taking.{Taking}
@@ -35,8 +35,8 @@ use Rattle.join_law.proofs.Results.{chain_has, walked_all}
 use Rattle.join_law.proofs.Counts.{counted_exactly, few_results, few_pairs}
 
 -- a seat works by the sizes that it knows: rows may be put while growths may come, or build is past HASH_INNER
-abbrev pub WorksBySizes : Join → View → Type 0
-WorksBySizes j v = (growth_place j v ≡ true) ⊎ ((ph : ℕ) × (At v build ph) × (HASH_OUTER ≤ ph))
+abbrev pub WorksBySizes : View → Type 0
+WorksBySizes v = (growth_place v ≡ true) ⊎ ((ph : ℕ) × (At v build ph) × (HASH_OUTER ≤ ph))
 
 -- the row that a word names
 abbrev pub named_row : ℕ → List ℕ
@@ -62,7 +62,18 @@ module _ (j : Join) (words : List ℕ) (views : List View) (phases : List ℕ) (
 
   -- the build that the seat is attached to has no phase past FREE
   pub build_phase_found : (ph : ℕ) → At v build ph → ph ≤ FREE
-  build_phase_found ph on = let end = h.ends in let here = s.here build ph on in omega arith
+  build_phase_found ph on = let end = h.ends.of_build in let here = s.here build ph on in omega arith
+
+  -- nor those of the growths past their last ELECT
+  pub batch_growth_found : (ph : ℕ) → At v batch_growth ph → ph ≤ last_batch_growth
+  batch_growth_found ph on = let end = h.ends.of_batches in let here = s.here batch_growth ph on in omega arith
+
+  pub bucket_growth_found : (ph : ℕ) → At v bucket_growth ph → ph ≤ last_bucket_growth
+  bucket_growth_found ph on = let end = h.ends.of_buckets in let here = s.here bucket_growth ph on in omega arith
+
+  -- the seat stored sizes in no phase that is to come
+  pub stored_before : (bar ph later : ℕ) → At v bar ph → Elected v.client.stored bar later → later ≤ ph
+  stored_before bar ph later on stored = let here = s.here bar ph on in let past = s.barriers.past id v s.at bar later (h.parts.grown.stored id v s.at bar later stored) in omega arith
 
   -- the hash word of the row whose hash the seat knows to be stored is the hash of its key
   pub hash_found : (row n : ℕ) → get_or words (op_at (step_op j (Load (Plain (word.Hash row))))) 0 ≡ n → row < rows j → v.client.hashed ≡ Some row → j.hash row ≡ Some n
@@ -83,15 +94,15 @@ module _ (j : Join) (words : List ℕ) (views : List View) (phases : List ℕ) (
   sizes_found n k found known settled = word_found (Load look.Sizes) n found (omega arith) ∙ ((h.parts.known.fits id v s.at k known).settled settled).1
 
   -- the sizes by which the seat works are in force
-  pub known_in_force : (w : ℕ) → known_word v ≡ Some w → WorksBySizes j v → h.memory.sizes ≡ w
+  pub known_in_force : (w : ℕ) → known_word v ≡ Some w → WorksBySizes v → h.memory.sizes ≡ w
   known_in_force w known works = ⊎_elim
       (λ place. sizes_while_hashed j h.memory h.lists h.growth views phases h.parts id v s w known place)
       (λ later. in_force_later j h.memory.sizes h.growth phases views id v w later.0 h.parts.attached h.parts.known s.at known later.1 later.2) works
 
-  pub known_found : (w n : ℕ) → get_or words (op_at (step_op j (Load (Plain word.Sizes)))) 0 ≡ n → known_word v ≡ Some w → WorksBySizes j v → n ≡ w
+  pub known_found : (w n : ℕ) → get_or words (op_at (step_op j (Load (Plain word.Sizes)))) 0 ≡ n → known_word v ≡ Some w → WorksBySizes v → n ≡ w
   known_found w n found known works = word_found (Load (Plain word.Sizes)) n found (omega arith) ∙ known_in_force w known works
 
-  pub known_fit : (w : ℕ) → known_word v ≡ Some w → WorksBySizes j v → SizesFit j (sizes_of w)
+  pub known_fit : (w : ℕ) → known_word v ≡ Some w → WorksBySizes v → SizesFit j (sizes_of w)
   known_fit w known works = subst (λ (n : ℕ). SizesFit j (sizes_of n)) (known_in_force w known works) h.parts.fit
 
   -- sizes that are found have room

@@ -27,12 +27,11 @@ module _ (j : Join) (m : Memory) (lists : List (List ℕ)) (growth : Option (ℕ
   -- a seat's attachments change
   pub attached_moves : (a : List (ℕ × ℕ))
       → ((r : ℕ) → 1 ≤ times r v.client.hand → (b ph : ℕ) → On phases v b ph → phase_of a b ≡ Some ph)
-      → ((bar ph : ℕ) → (bar ≡ 1) ⊎ (bar ≡ 2) → phase_of a bar ≡ Some ph → j.grows ≡ true)
       → ((bar ph : ℕ) → (bar ≡ 1) ⊎ (bar ≡ 2) → phase_of a bar ≡ Some ph → (phase_of a 0 ≡ Some HASH_INNER) × (now phases 0 ≡ HASH_INNER))
       → ((b ph : ℕ) → phase_of a (batch_bar b) ≡ Some ph → (phase_of a 0 ≡ Some RUN) × (now phases 0 ≡ RUN))
       → ((bar : ℕ) → (bar ≡ 1) ⊎ (bar ≡ 2) → 1 ≤ growth_phase bar (now phases bar) → 1 ≤ total (on_bar bar) (set views id (record v { attached = a })))
       → Parts j m lists growth (set views id (record v { attached = a })) phases
-  attached_moves a hand grows growths batches manned =
+  attached_moves a hand growths batches manned =
       let w : View = record v { attached = a } in
       let k = knows_of j m lists growth views phases p id v at in
       record {
@@ -53,7 +52,6 @@ module _ (j : Join) (m : Memory) (lists : List (List ℕ)) (growth : Option (ℕ
         count = count_still m.results views id v w at refl p.count;
         cursors = cursors_still j m.inner_cursor m.outer_cursor phases views id v w at refl refl refl refl p.cursors;
         attached = record {
-          grows = each_set _ views id w p.attached.grows grows;
           growths = each_set _ views id w p.attached.growths growths;
           batches = each_set _ views id w p.attached.batches batches;
           manned = manned;
@@ -78,7 +76,7 @@ module _ (j : Join) (m : Memory) (lists : List (List ℕ)) (growth : Option (ℕ
   still_manned bar w more some = let t = total_set (on_bar bar) views id v w at in omega arith
 
 -- ATTACHES
-pub enter_keeps : (j : Join) (m : Memory) (lists : List (List ℕ)) (growth : Option (ℕ × ℕ)) (views : List View) (phases : List ℕ) → Parts j m lists growth views phases → (id : ℕ) (v w : View) (bar : ℕ) → IsEnter views phases id v w bar → Enters j v bar
+pub enter_keeps : (j : Join) (m : Memory) (lists : List (List ℕ)) (growth : Option (ℕ × ℕ)) (views : List View) (phases : List ℕ) → Parts j m lists growth views phases → (id : ℕ) (v w : View) (bar : ℕ) → IsEnter views phases id v w bar → Enters v bar
     → Parts j m lists growth (set views id w) phases
 enter_keeps j m lists growth views phases p id v w bar s enters =
     let r = s.after in
@@ -87,18 +85,15 @@ enter_keeps j m lists growth views phases p id v w bar s enters =
     attached_to j m lists growth views phases p id v s.at w bar (Some (now phases bar)) r (attached_moves j m lists growth views phases p id v s.at w.attached
     (λ q more b ph on. keeps b ph on.0)
     (λ b ph is on. dite (ℕ_discrete b bar)
-    (λ same. (growth_enters b is (subst (Enters j v) (sym same) enters)).0)
-    (λ other. p.attached.grows id v s.at b ph is (sym (r.elsewhere b other) ∙ on)))
-    (λ b ph is on. dite (ℕ_discrete b bar)
-    (λ same. let e = (growth_enters b is (subst (Enters j v) (sym same) enters)).1 in (keeps 0 HASH_INNER e, s.here 0 HASH_INNER e))
+    (λ same. let e = growth_enters b is (subst (Enters v) (sym same) enters) in (keeps 0 HASH_INNER e, s.here 0 HASH_INNER e))
     (λ other. let o = p.attached.growths id v s.at b ph is (sym (r.elsewhere b other) ∙ on) in (keeps 0 HASH_INNER o.0, o.1)))
     (λ b ph on. dite (ℕ_discrete (batch_bar b) bar)
-    (λ same. let e : At v 0 RUN = subst (Enters j v) (sym same) enters in (keeps 0 RUN e, s.here 0 RUN e))
+    (λ same. let e : At v 0 RUN = subst (Enters v) (sym same) enters in (keeps 0 RUN e, s.here 0 RUN e))
     (λ other. let o = p.attached.batches id v s.at b ph (sym (r.elsewhere (batch_bar b) other) ∙ on) in (keeps 0 RUN o.0, o.1)))
     (λ b is past. still_manned j m lists growth views phases p id v s.at b (record v { attached = w.attached }) (more_on b) (p.attached.manned b is past)))
   where
-    growth_enters : (b : ℕ) → (b ≡ 1) ⊎ (b ≡ 2) → Enters j v b → (j.grows ≡ true) × At v 0 HASH_INNER
-    growth_enters b is e = ⊎_elim (λ one. subst (Enters j v) one e) (λ two. subst (Enters j v) two e) is
+    growth_enters : (b : ℕ) → (b ≡ 1) ⊎ (b ≡ 2) → Enters v b → At v 0 HASH_INNER
+    growth_enters b is e = ⊎_elim (λ one. subst (Enters v) one e) (λ two. subst (Enters v) two e) is
 
     more_on : (b : ℕ) → one_if (phase_of v.attached b) ≤ one_if (phase_of w.attached b)
     more_on b = dite (ℕ_discrete b bar)
@@ -119,7 +114,6 @@ moves_on j m lists growth views phases p id v w bar ph to at on r way =
     (λ same. (ph, subst (λ (c : ℕ). phase_of v.attached c ≡ Some ph) (sym same) on)) (λ other. (q, sym (r.elsewhere b other) ∙ e)) in
     attached_to j m lists growth views phases p id v at w bar (Some to) r (attached_moves j m lists growth views phases p id v at w.attached
     (λ q more b x o. keeps b x o)
-    (λ b q is e. let o = before b q e in p.attached.grows id v at b o.0 is o.1)
     (λ b q is e. let o = before b q e in let a = p.attached.growths id v at b o.0 is o.1 in (keeps 0 HASH_INNER a, a.1))
     (λ b q e. let o = before (batch_bar b) q e in let a = p.attached.batches id v at b o.0 o.1 in (keeps 0 RUN a, a.1))
     (λ b is past. still_manned j m lists growth views phases p id v at b (record v { attached = w.attached }) (more_on b) (p.attached.manned b is past)))
@@ -145,7 +139,6 @@ leave_keeps j m lists growth views phases p id v w bar ph s q =
     subst (λ (c : ℕ). QuietAt j v c x) (sym same) (subst (QuietAt j v bar) (sym same_ph) q.1) in
     attached_to j m lists growth views phases p id v s.at w bar None r (attached_moves j m lists growth views phases p id v s.at w.attached
     (λ x more b c on. let none : times x v.client.hand ≡ 0 = ap (times x) q.0 in absurd (omega arith))
-    (λ b x is e. let o = before b x e in p.attached.grows id v s.at b x is o.1)
     (λ b x is e. let o = before b x e in let a = p.attached.growths id v s.at b x is o.1 in dite (ℕ_discrete 0 bar)
     (λ same. let d = build_left HASH_INNER same a.0 in ⊎_elim (λ one. absurd (none-some x (sym d.1 ∙ subst (λ (c : ℕ). phase_of v.attached c ≡ Some x) one o.1))) (λ two. absurd (none-some x (sym d.2 ∙ subst (λ (c : ℕ). phase_of v.attached c ≡ Some x) two o.1))) is)
     (λ other. (r.elsewhere 0 other ∙ a.0, a.1)))
@@ -189,7 +182,6 @@ elect_keeps j m lists growth views phases p id v bar ph at =
       known = record { fits = each_set _ views id w p.known.fits k.known };
       grown = record {
         last = λ b q e. let g = p.grown.last b q e in (g.0, g.1, g.2, g.3, stored_still views id v w b q at refl g.4);
-        fixed = p.grown.fixed;
         stored = each_set _ views id w p.grown.stored (λ b q e. let o = p.grown.stored id v at b q e in (suc o.0, o.1));
         swept = each_set _ views id w p.grown.swept k.swept;
       };

@@ -78,7 +78,7 @@ module _ (j : Join) (meet : RowsMeet j) (fit : SizesFit j (first_sizes j)) where
     laid = record { batch_sizes = length-replicate {A = ℕ} 128 0; heads = length-replicate {A = ℕ} (heads j) 0; nexts = length-replicate {A = ℕ} (rows j) 0; hashes = length-replicate {A = ℕ} (rows j) 0 };
     bars = length-replicate {A = ℕ} 67 0;
     meet = meet;
-    fit = subst (SizesFit j) (sym (first_read j.buckets j.batches fit.most)) fit;
+    fit = subst (SizesFit j) (sym (first_read j.buckets 1 fit.most)) fit;
     place = record { once = λ r. let a = all_open r in let t = no_total r (heads j) in omega arith };
     links = record { many = length-replicate (heads j) []; links = λ h inside. subst (λ (l : List ℕ). Rattle.join_law.specs.Stands.Links m.nexts (get_or m.heads h 0) l) (sym (none_at h)) (get_or-replicate (heads j) h 0 0 inside) };
     next = record { stored = λ id v at. absurd (nobody id v at) };
@@ -92,7 +92,6 @@ module _ (j : Join) (meet : RowsMeet j) (fit : SizesFit j (first_sizes j)) where
       outer = record { past = λ past. absurd (omega arith); seen = λ id v at. absurd (nobody id v at); few = omega arith; near = omega arith };
     };
     attached = record {
-      grows = λ id v at. absurd (nobody id v at);
       growths = λ id v at. absurd (nobody id v at);
       batches = λ id v at. absurd (nobody id v at);
       manned = λ bar is past. let n = none_begun bar is in absurd (omega arith);
@@ -102,7 +101,7 @@ module _ (j : Join) (meet : RowsMeet j) (fit : SizesFit j (first_sizes j)) where
     takes = record { fits = λ id v at. absurd (nobody id v at) };
     walks = record { fits = λ id v at. absurd (nobody id v at) };
     known = record { fits = λ id v at. absurd (nobody id v at) };
-    grown = record { last = λ bar ph e. absurd (none-some (bar, ph) e); fixed = λ _. refl; stored = λ id v at. absurd (nobody id v at); swept = λ id v at. absurd (nobody id v at) };
+    grown = record { last = λ bar ph e. absurd (none-some (bar, ph) e); stored = λ id v at. absurd (nobody id v at); swept = λ id v at. absurd (nobody id v at) };
   }
 
   words_same : opened (opens j) (word_count j) ≡ flat m
@@ -119,4 +118,4 @@ module _ (j : Join) (meet : RowsMeet j) (fit : SizesFit j (first_sizes j)) where
       a ∙ ap (λ l. opened (opens j) 8 ++ l) (sym (ap (λ l. replicate 40 0 ++ l) t ∙ r4))
 
   pub opening_stands : (own : ℕ) → Stands j (opened (opens j) (word_count j)) (newcomer first_view (Some own) ∷ []) (replicate 67 0)
-  opening_stands own = record { memory = m; lists = lists; growth = None; same = words_same; parts = draw_keeps j m lists None [] (replicate 67 0) empty (Some own); left = left_more [] (record { spent = λ id v at. absurd (nobody id v at) }) (newcomer first_view (Some own)) own refl; claims = record { all = omega arith }; ends = let z = at_zero 0 in omega arith }
+  opening_stands own = record { memory = m; lists = lists; growth = None; same = words_same; parts = draw_keeps j m lists None [] (replicate 67 0) empty (Some own); left = left_more [] (record { spent = λ id v at. absurd (nobody id v at) }) (newcomer first_view (Some own)) own refl; claims = record { all = omega arith }; ends = record { of_build = let z = at_zero 0 in omega arith; of_batches = let z = at_zero 1 in omega arith; of_buckets = let z = at_zero 2 in omega arith } }

@@ -12,12 +12,9 @@ pub record Join : Type 0 where
   pub meets : ℕ → ℕ → Bool
   -- how many chains there is room for in a half
   pub chains : ℕ
-  -- the opening sizes, and how many batches the first growth of batches brings
+  -- how many buckets it begins with, and how many batches the first growth of batches brings
   pub buckets : ℕ
-  pub batches : ℕ
   pub first_batches : ℕ
-  -- whether the sizes may grow at all
-  pub grows : Bool
 
 abbrev pub rows : Join → ℕ
 rows j = j.inner + j.outer
@@ -126,7 +123,7 @@ write m (Hash r) x = record m { hashes = set m.hashes r x }
 
 -- the sizes that the join begins with, and the opening words
 abbrev pub first_sizes : Join → SizesOf
-first_sizes j = record { half = 0; buckets = j.buckets; batches = j.batches }
+first_sizes j = record { half = 0; buckets = j.buckets; batches = 1 }
 
 abbrev pub opens : Join → ℕ → ℕ
 opens j at = cond (at == 7) (size_word (first_sizes j)) 0

@@ -91,7 +91,7 @@ At v bar ph = phase_of v.attached bar ≡ Some ph
 
 -- where a seat may put an inner row of this hash, and an outer row
 abbrev pub InnerPush : Join → View → SizesOf → ℕ → ℕ → Type 0
-InnerPush j v z x h = ((At v build HASH_INNER) × (growth_place j v ≡ true) × (h ≡ hashed_at j z x))
+InnerPush j v z x h = ((At v build HASH_INNER) × (growth_place v ≡ true) × (h ≡ hashed_at j z x))
     ⊎ ((At v (batch_bar (batch_of z x)) LOAD) × (h ≡ chain_at j z x))
 
 abbrev pub OuterPush : Join → View → SizesOf → ℕ → ℕ → Type 0
@@ -106,14 +106,13 @@ abbrev pub swept_at : Option Swept → ℕ → ℕ → ℕ
 swept_at None bar ph = 0
 swept_at (Some s) bar ph = cond ((s.bar == bar) && (s.phase == ph)) s.heads 0
 
--- where a seat may take rows from, in a phase that it names: from a store in its batch's LOAD or PROBE; from the old half, head by head, while rows move
+-- where a seat may take rows from, in a phase that it names: from a store in its batch's LOAD or PROBE; from the heads of the old half, while rows move
 abbrev pub MayTake : Join → View → Source → ℕ → Type 0
 MayTake j v (from.Inner half batch) ph = (At v (batch_bar batch) LOAD) × (batch < 64) × (ph ≡ RUN) × WithSizes v (λ z. half ≡ z.half)
 MayTake j v (from.Outer batch) ph = (At v (batch_bar batch) PROBE) × (batch < 64) × (ph ≡ RUN)
 MayTake j v (from.Old bar turn head) ph = (At v bar ph) × IsGrowth bar × (growth_phase bar ph ≡ REINSERT)
-    × (growth_place j v ≡ true) × (At v build HASH_INNER)
-    × WithSizes v (λ z. (turn < old_heads (before_growth j bar z)) × (head ≡ old_head j (before_growth j bar z) turn)
-    × (turn ≤ swept_at v.client.swept bar ph))
+    × (growth_place v ≡ true) × (At v build HASH_INNER)
+    × WithSizes v (λ z. (turn < old_heads (before_growth j bar z)) × (head ≡ old_head j (before_growth j bar z) turn))
 
 abbrev pub or_zero : Option ℕ → ℕ
 or_zero None = 0
@@ -161,7 +160,7 @@ MayLook j v (WalkNext inner) = HasReached v.client.walk inner
 MayLook j v (Aside row) = (InHand v row) × (j.hash row ≡ None)
 MayLook j v (GiveUp row) = Probing j v row (λ z x. ⊤)
 MayLook j v (Done batch) = (batch < 64) × With (phase_of v.attached (batch_bar batch)) (λ ph. SCAN ≤ ph)
-MayLook j v Late = At v build FREE
+MayLook j v Late = With (phase_of v.attached build) (λ ph. FREE ≤ ph)
 
 -- how often a seat may still find a side's end by an add, and the phase in which it claims
 abbrev pub claims_of : View → Side → ℕ
@@ -242,7 +241,7 @@ passed_of (Some w) = w.passed
 -- what a seat knows after a load that found n
 abbrev pub looked : Join → View → Look → ℕ → HashView
 looked j v (Plain w) n = v.client
-looked j v look.Sizes n = record (v.client) { known = reads_sizes j v n }
+looked j v look.Sizes n = record (v.client) { known = reads_sizes v n }
 looked j v (Cursor Inner) n = record (v.client) { inner_ended = v.client.inner_ended || nat_le j.inner n }
 looked j v (Cursor Outer) n = record (v.client) { outer_ended = v.client.outer_ended || nat_le j.outer n }
 looked j v (TakeHead source) n = found_head j v source n

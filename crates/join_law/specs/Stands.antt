@@ -16,7 +16,7 @@ use Rattle.join_law.specs.declared.step.Source.TheVariants as from
 use Rattle.join_law.specs.Layout.{Join, Memory, SizesOf, Laid, flat, sizes_of, rows, heads, store_no, outer_no}
 use Rattle.join_law.specs.Routes.{batch_of, chain_at, store_at, outer_at, hashed_at, before_growth, old_head, old_heads}
 use Rattle.join_law.specs.Views.{View, spent_view, claimed_by, held, results_of, inner_ended, outer_ended, inner_claims, outer_claims, below, unclaimed}
-use Rattle.join_law.specs.Phases.{On, UnderWay, build, batch_growth, bucket_growth, batch_bar, growth_phase, IsGrowth, HASH_INNER, HASH_OUTER, RUN, FREE, LOAD, PROBE, SCAN, REALLOCATE, REINSERT}
+use Rattle.join_law.specs.Phases.{On, UnderWay, build, batch_growth, bucket_growth, batch_bar, growth_phase, IsGrowth, HASH_INNER, HASH_OUTER, RUN, FREE, LOAD, PROBE, SCAN, REALLOCATE, REINSERT, last_batch_growth, last_bucket_growth}
 
 -- the list at a head
 abbrev pub at_head : List (List ℕ) → ℕ → List ℕ
@@ -140,8 +140,7 @@ pub record Cursors (j : Join) (inner_at outer_at : ℕ) (phases : List ℕ) (vie
 abbrev pub on_bar : ℕ → View → ℕ
 on_bar bar v = one_if (phase_of v.attached bar)
 
-pub record AttachedInside (j : Join) (phases : List ℕ) (views : List View) : Type 0 where
-  pub grows : (id : ℕ) (v : View) → There views id v → (bar ph : ℕ) → IsGrowth bar → phase_of v.attached bar ≡ Some ph → j.grows ≡ true
+pub record AttachedInside (phases : List ℕ) (views : List View) : Type 0 where
   pub growths : (id : ℕ) (v : View) → There views id v → (bar ph : ℕ) → IsGrowth bar → phase_of v.attached bar ≡ Some ph
       → On phases v build HASH_INNER
   pub batches : (id : ℕ) (v : View) → There views id v → (b ph : ℕ) → phase_of v.attached (batch_bar b) ≡ Some ph → On phases v build RUN
@@ -197,20 +196,20 @@ pub record Walks (j : Join) (z : SizesOf) (phases nexts : List ℕ) (lists : Lis
   pub fits : (id : ℕ) (v : View) → There views id v → (w : Walk) → v.client.walk ≡ Some w → WalkFits j z phases nexts lists v.client.hand w
 
 -- A seat's sizes are in force: for good once settled, else while both growths are in the phases at which they were read and no new ones were stored in these
-abbrev pub Settled : Join → List ℕ → Type 0
-Settled j phases = (j.grows ≡ false) ⊎ (HASH_OUTER ≤ now phases build)
+abbrev pub Settled : List ℕ → Type 0
+Settled phases = HASH_OUTER ≤ now phases build
 
 abbrev pub NotStored : Option (ℕ × ℕ) → ℕ → ℕ → Type 0
 NotStored growth bar ph = growth ≡ Some (bar, ph) → ⊥
 
-pub record KnownFits (j : Join) (sizes : ℕ) (growth : Option (ℕ × ℕ)) (phases : List ℕ) (k : Known) : Type 0 where
-  pub settled : k.settled ≡ true → (Settled j phases) × (sizes ≡ k.word)
+pub record KnownFits (sizes : ℕ) (growth : Option (ℕ × ℕ)) (phases : List ℕ) (k : Known) : Type 0 where
+  pub settled : k.settled ≡ true → (Settled phases) × (sizes ≡ k.word)
   pub read : k.settled ≡ false → (k.batch_growth ≤ now phases batch_growth) × (k.bucket_growth ≤ now phases bucket_growth)
       × (now phases batch_growth ≡ k.batch_growth → now phases bucket_growth ≡ k.bucket_growth → NotStored growth batch_growth k.batch_growth
       → NotStored growth bucket_growth k.bucket_growth → sizes ≡ k.word)
 
-pub record SizesKnown (j : Join) (sizes : ℕ) (growth : Option (ℕ × ℕ)) (phases : List ℕ) (views : List View) : Type 0 where
-  pub fits : (id : ℕ) (v : View) → There views id v → (k : Known) → v.client.known ≡ Some k → KnownFits j sizes growth phases k
+pub record SizesKnown (sizes : ℕ) (growth : Option (ℕ × ℕ)) (phases : List ℕ) (views : List View) : Type 0 where
+  pub fits : (id : ℕ) (v : View) → There views id v → (k : Known) → v.client.known ≡ Some k → KnownFits sizes growth phases k
 
 -- The last new sizes were stored at a REALLOCATE that isn't to come, by a seat elected for it. The heads that a seat swept in the phase that stands are empty
 abbrev pub StoredBy : List View → ℕ → ℕ → Type 0
@@ -219,7 +218,6 @@ StoredBy views bar ph = (id : ℕ) × (v : View) × (There views id v) × (Elect
 pub record Growth (j : Join) (z : SizesOf) (growth : Option (ℕ × ℕ)) (phases : List ℕ) (lists : List (List ℕ)) (views : List View) : Type 0 where
   pub last : (bar ph : ℕ) → growth ≡ Some (bar, ph) → IsGrowth bar × (growth_phase bar ph ≡ REALLOCATE) × (ph ≤ now phases bar)
       × (now phases bar ≤ suc ph → SizesFit j (before_growth j bar z)) × StoredBy views bar ph
-  pub fixed : j.grows ≡ false → growth ≡ None
   pub stored : (id : ℕ) (v : View) → There views id v → (bar ph : ℕ) → Elected v.client.stored bar ph → Elected v.elections bar ph
   pub swept : (id : ℕ) (v : View) → There views id v → (s : Swept) → v.client.swept ≡ Some s
       → IsGrowth s.bar × (growth_phase s.bar s.phase ≡ REINSERT) × (s.phase ≤ now phases s.bar)
@@ -234,9 +232,11 @@ pub record LeftOver (views : List View) : Type 0 where
 pub record RowsClaimed (j : Join) (inner outer : ℕ) (views : List View) : Type 0 where
   pub all : total claimed_by views ≡ min inner j.inner + min outer j.outer
 
--- The build never comes past FREE
-abbrev pub BuildEnds : List ℕ → Type 0
-BuildEnds phases = now phases build ≤ FREE
+-- The build never comes past FREE, and a growth never past the ELECT phase in which nobody takes part any more
+pub record PhasesEnd (phases : List ℕ) : Type 0 where
+  pub of_build : now phases build ≤ FREE
+  pub of_batches : now phases batch_growth ≤ last_batch_growth
+  pub of_buckets : now phases bucket_growth ≤ last_bucket_growth
 
 -- all parts together
 pub record Parts (j : Join) (m : Memory) (lists : List (List ℕ)) (growth : Option (ℕ × ℕ)) (views : List View) (phases : List ℕ) : Type 0 where
@@ -253,11 +253,11 @@ pub record Parts (j : Join) (m : Memory) (lists : List (List ℕ)) (growth : Opt
   pub gone : Gone j views
   pub count : Counted m.results views
   pub cursors : Cursors j m.inner_cursor m.outer_cursor phases views
-  pub attached : AttachedInside j phases views
+  pub attached : AttachedInside phases views
   pub seen : Seen (sizes_of m.sizes) j phases lists views
   pub takes : Takes j (sizes_of m.sizes) phases m.nexts lists views
   pub walks : Walks j (sizes_of m.sizes) phases m.nexts lists views
-  pub known : SizesKnown j m.sizes growth phases views
+  pub known : SizesKnown m.sizes growth phases views
   pub grown : Growth j (sizes_of m.sizes) growth phases lists views
 
 -- Where everything stands: some lists at the heads, and some last growth, for which all parts hold
@@ -269,4 +269,4 @@ pub record Stands (j : Join) (words : List ℕ) (views : List View) (phases : Li
   pub parts : Parts j memory lists growth views phases
   pub left : LeftOver views
   pub claims : RowsClaimed j memory.inner_cursor memory.outer_cursor views
-  pub ends : BuildEnds phases
+  pub ends : PhasesEnd phases
