@@ -12,15 +12,12 @@ pub struct HashParty<'r> {
     pub outer: &'r Rows,
     /// How many chains there is room for in a half.
     pub chains: u32,
-    /// The sizes that it begins with.
+    /// How many buckets it begins with, in one batch.
     pub buckets: u32,
-    pub batches: u32,
     /// How many batches the first growth of batches brings.
     pub first_batches: u32,
-    /// Whether the sizes may grow at all.
-    pub grows: bool,
     ghost few: { (length inner.now.rows + length outer.now.rows ≤ 1073741824) × (chains ≤ 524288) },
-    ghost sizes: { (buckets ≤ 262144) × (batches ≤ 64) },
+    ghost sizes: { buckets ≤ 262144 },
 }
 
 // Where the heads begin.
@@ -67,7 +64,7 @@ impl<'r> HashParty<'r> {
     fn first_word(&self) -> u64
         ensures { result ≡ size_word (first_sizes (join self.now)) }
     {
-        u64::from(self.buckets) * 256 + u64::from(self.batches) * 2
+        u64::from(self.buckets) * 256 + 2
     }
 
     // Where a word stands. Each of the first five has a line of a cache to itself.
@@ -170,7 +167,7 @@ impl<'r> Party for HashParty<'r> {
 
     ghost after = { λ p. after (join p) };
 
-    ghost means = { λ p. record { holds = Stands (join p); quiet = Quiet (join p); passes = Passes; enters = Enters (join p); stays = Stays } };
+    ghost means = { λ p. record { holds = Stands (join p); quiet = Quiet (join p); passes = Passes; enters = Enters; stays = Stays } };
 
     ghost step_inside = { λ p. laws.step_inside (join p) };
 

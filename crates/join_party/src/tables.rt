@@ -1,6 +1,6 @@
 //! The tables of a parallel join: its lock, its barriers and words, and its signals; and a worker's
 //! seats at them.
-ghost use Rattle.std.specs.Prelude.{◌≡◌, ◌+◌, ◌*◌, ◌<◌, ◌≤◌, false, Some, [], length, IfOk, IfErr};
+ghost use Rattle.std.specs.Prelude.{◌≡◌, ◌+◌, ◌*◌, ◌<◌, ◌≤◌, Some, [], length, IfOk, IfErr};
 ghost use Rattle.std.specs.Int.{IsPowerOfTwo};
 ghost use Rattle.lw_core.specs.Machine as lock;
 ghost use Rattle.wait_core.specs.Seating as wait;
@@ -8,7 +8,8 @@ ghost use Rattle.signal_core.specs.Seating as signal;
 ghost use Rattle.row_model.specs.declared.Side.{Side};
 ghost use Rattle.join_law.specs.Views.{first_view};
 ghost use Rattle.join_party.specs.Claims.{MayStillEnd};
-ghost use Rattle.join_party.specs.Plans.{IsLeastPowerFrom, batches_for};
+ghost use Rattle.join_party.specs.Plans.{IsLeastPowerFrom};
+ghost use Rattle.join_party.specs.Powers.{power_in_one_way};
 
 use crate::party::HashParty;
 use lw_core::{Guarded, LwSeat, LwTable};
@@ -50,7 +51,8 @@ pub struct JoinTables<'r> {
     ghost lock: { (locks.locks ≡ 1) × (locks.procs ≡ plan.workers + 1) },
     ghost barriers: { (waits.procs ≡ plan.workers + 1) × (waits.cvs ≡ plan.workers + 73) × (waits.bars ≡ 67) × (waits.phase ≡ 0) },
     ghost slots: { (signals.procs ≡ plan.workers + 1) × (signals.generation ≡ 0) },
-    ghost fixed: { waits.party.grows ≡ false },
+    ghost first: { (2 ≤ waits.party.first_batches) × (waits.party.first_batches ≤ 64) },
+    ghost power: { IsPowerOfTwo waits.party.first_batches } by { power_in_one_way waits.party.first_batches },
 }
 
 /// A worker's seats, one at each table.
@@ -62,24 +64,21 @@ pub struct JoinSeats<'r> {
     ghost ends: { (side : Side) → MayStillEnd wait.view.client side },
 }
 
-// How many batches so many inner rows make.
-fn batches_for(rows: u32, plan: Plan, many: u32) -> u32
+// How many chains there may ever be in a half: as many buckets as the plan has, or more than there are
+// inner rows; in one batch, or in as many as there may be where the rows are past the plan's budget.
+fn most_chains(rows: u32, plan: Plan) -> u32
+    requires rows { rows ≤ 1073741824 }
     requires buckets { plan.buckets ≤ 262144 }
-    requires many { IsPowerOfTwo many × (0 < many) × (many ≤ 64) }
-    ensures batches { result ≡ batches_for rows plan many }
-    ensures power { IsPowerOfTwo result }
-    ensures range { (0 < result) × (result ≤ 64) × (plan.buckets * result ≤ 524288) }
+    ensures range { (plan.buckets ≤ result) × (result ≤ 524288) }
 {
-    if plan.mem < rows && plan.buckets * many <= 524_288 {
-        many
-    } else {
-        1
-    }
+    let needed = u32::min(rows, 262_143) + 1;
+    let buckets = u32::max(plan.buckets, needed.next_power_of_two());
+    let batches = if plan.mem < rows { 64 } else { 1 };
+    u32::min(buckets * batches, 524_288)
 }
 
-/// The tables of a join of these rows by this plan, and the leader's seats, with the number 0. Inner
-/// rows past the plan's budget are in batches from the start, the least power of two that isn't below
-/// two for each worker, unless these and the buckets are too many chains.
+/// The tables of a join of these rows by this plan, and the leader's seats, with the number 0. It begins
+/// with the plan's buckets in one batch, and has room for as many as growth may bring.
 pub fn open_tables<'r>(
     alloc: Global,
     inner: &'r Rows,
@@ -89,7 +88,7 @@ pub fn open_tables<'r>(
     requires workers { (0 < plan.workers) × (plan.workers ≤ 16) }
     requires buckets { IsPowerOfTwo plan.buckets × (plan.buckets ≤ 262144) }
     ensures rows { IfOk result (λ t. (t.0.waits.party.inner ≡ inner.entry) × (t.0.waits.party.outer ≡ outer.entry)) }
-    ensures plan { IfOk result (λ t. (t.0.plan ≡ plan) × (t.0.waits.party.buckets ≡ plan.buckets) × (t.0.waits.party.batches ≡ batches_for (length inner.now.rows) plan t.0.waits.party.first_batches)) }
+    ensures plan { IfOk result (λ t. (t.0.plan ≡ plan) × (t.0.waits.party.buckets ≡ plan.buckets)) }
     ensures batches { IfOk result (λ t. IsLeastPowerFrom (2 * plan.workers) t.0.waits.party.first_batches) }
     ensures lock { IfOk result (λ t. (t.1.lock.table_id ≡ t.0.locks.table_id) × (t.1.lock.view ≡ lock.fresh (Some 0))) }
     ensures wait { IfOk result (λ t. (t.1.wait.table_id ≡ t.0.waits.table_id) × (t.1.wait.view ≡ wait.fresh first_view (Some 0))) }
@@ -97,16 +96,12 @@ pub fn open_tables<'r>(
 {
     // A table tells by its length that it is within its limits.
     let _rows = inner.len() + outer.len();
-    let first_batches = (2 * plan.workers).next_power_of_two();
-    let batches = batches_for(inner.len(), plan, first_batches);
     let party = HashParty {
         inner,
         outer,
-        chains: plan.buckets * batches,
+        chains: most_chains(inner.len(), plan),
         buckets: plan.buckets,
-        batches,
-        first_batches,
-        grows: false,
+        first_batches: (2 * plan.workers).next_power_of_two(),
     };
     let procs = plan.workers + 1;
     let (locks, lock) = LwTable::new(alloc, 1, procs)?;

@@ -79,22 +79,24 @@ fn draw_all<'r, R: Abort>(
 
 #[test]
 fn tables_have_room_for_each_worker_of_the_plan(rt: HostRuntime) -> Result<(), Fail> {
+    // Workers, buckets and rows, and how many batches the first growth of them brings and how many chains there are.
     let cases = [
-        (1, 1, 1, 1),
-        (1, 1, 2, 2),
-        (3, 1, 2, 8),
-        (16, 1, 2, 32),
-        (16, 16_384, 2, 32),
-        (16, 32_768, 2, 1),
-        (1, 262_144, 2, 2),
-        (16, 262_144, 1, 1),
+        (1, 1, 1, 2, 2),
+        (1, 1, 2, 2, 256),
+        (3, 1, 2, 8, 256),
+        (16, 1, 2, 32, 256),
+        (16, 4096, 2, 32, 262_144),
+        (16, 16_384, 2, 32, 524_288),
+        (1, 262_144, 2, 2, 524_288),
+        (16, 262_144, 1, 32, 262_144),
     ];
-    for (workers, buckets, count, batches) in cases {
+    for (workers, buckets, count, batches, chains) in cases {
         let rows = some_rows(rt.alloc(), count)?;
         let (tables, mut leader) = open(&rt, rt.alloc(), &rows, workers, buckets);
         assert_eq!(rt; tables.plan.workers, workers);
         assert_eq!(rt; tables.plan.buckets, buckets);
-        assert_eq!(rt; tables.waits.party().batches, batches);
+        assert_eq!(rt; tables.waits.party().first_batches, batches);
+        assert_eq!(rt; tables.waits.party().chains, chains);
         let drawn = draw_all(&rt, &tables, &mut leader, workers);
         assert_eq!(rt; drawn, u64::from(workers) + 1);
         mem::forget(leader);

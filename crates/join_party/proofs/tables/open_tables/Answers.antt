@@ -1,4 +1,4 @@
-use Rattle.std.proofs.Common.{◌<◌, ◌*◌, ℕ, false, sym, subst, arith}
+use Rattle.std.proofs.Common.{◌<◌, ℕ, refl, sym, subst, arith}
 use Rattle.std.proofs.lemmas.Nat.{pow_pos}
 use Rattle.join_law.proofs.Openings.{opening_stands}
 use Rattle.join_party.proofs.RowsMeeting.{rows_meet}
@@ -10,7 +10,7 @@ new-requires-3-clause-opening c = λ κs.
     let n : ℕ = c.args.plan.buckets in
     let power = c.requires.buckets.0 in
     let some : 0 < n = subst (λ (x : ℕ). 0 < x) (sym power.1) (pow_pos power.0) in
-    let many = c.batches_for-batches in
-    let range = many.ensures.range in
-    opening_stands _ (rows_meet c.args.inner.now c.args.outer.now (n * many.result) n many.result c.next_power_of_two-first_batches.result false few.0 few.1)
-    (record { half = omega arith; buckets = omega arith; batches = range.0; most = range.1; room = omega arith; few = omega arith; powers = (power, many.ensures.power) }) 0
+    let chains = c.most_chains in
+    let range = chains.ensures.range in
+    opening_stands _ (rows_meet c.args.inner.now c.args.outer.now chains.result n c.next_power_of_two.result few.0 few.1)
+    (record { half = omega arith; buckets = omega arith; batches = omega arith; most = omega arith; room = omega arith; few = omega arith; powers = (power, (0, refl)) }) 0
