@@ -1,9 +1,10 @@
 -- What a seat may do with a row follows from what it knows, and what the steps on a list add up to.
-use Rattle.std.proofs.Common.{◌≡◌, ℕ, refl, sym, subst, Some, None, Option, MatchOption}
+use Rattle.std.proofs.Common.{◌≡◌, ℕ, refl, sym, ap, ◌∙◌, subst, Some, None, Option, MatchOption}
 use Rattle.row_model.specs.declared.Side.{Side}
 use Rattle.row_model.specs.declared.Side.TheVariants.{Inner, Outer}
 use Rattle.wait_core.specs.Seating.{client_moved, party_of}
-use Rattle.join_law.specs.Machine.{took, saw_end}
+use Rattle.join_law.specs.Machine.{May, took, saw_end}
+use Rattle.join_law.specs.declared.step.HashStep.TheVariants.{Push}
 use Rattle.join_law.specs.declared.step.Source.{Source}
 use Rattle.join_law.specs.declared.step.Source.TheVariants as from
 use Rattle.join_law.specs.Layout.{Join, SizesOf, sizes_of}
@@ -12,6 +13,7 @@ use Rattle.join_law.specs.Views.{View, dropped}
 use Rattle.join_party.specs.Claims.{MayStillEnd}
 use Rattle.wait_core.specs.declared.view.WaitView.{WaitView}
 use Rattle.join_law.specs.declared.view.HashView.{HashView}
+use Rattle.shared_tuples.specs.Lists.{MayPushTo}
 use Rattle.shared_tuples.specs.Tuples.{Routed}
 
 -- what is asked of something that is there
@@ -46,3 +48,13 @@ pub take_ends : (result : Option ℕ) (v w : WaitView HashView) (source : Source
     → ((side : Side) → MayStillEnd v.client side) → (side : Side) → MayStillEnd w.client side
 take_ends None v w source is may = still_ends v w _ is (end_ends (party_of v) source may)
 take_ends (Some row) v w source is may = still_ends v w _ is (took_ends v.client row may)
+
+-- a row that was linked to what the head had may be pushed
+pub linked_to : (v l a y : WaitView HashView) (k : Option (ℕ × ℕ)) (row found : ℕ) → l ≡ client_moved v (record (v.client) { linked = k }) → a ≡ client_moved l (l.client) → y ≡ client_moved a (record (a.client) { linked = Some (row, found) })
+    → y ≡ client_moved v (record (v.client) { linked = Some (row, found) })
+linked_to v l a y k row found one two three =
+    three ∙ (ap (λ (x : WaitView HashView). client_moved x (record (x.client) { linked = Some (row, found) })) two
+    ∙ ap (λ (x : WaitView HashView). client_moved x (record (x.client) { linked = Some (row, found) })) one)
+
+pub may_push : (j : Join) (v y : WaitView HashView) (row head found : ℕ) → MayPushTo j (party_of v) head row → y ≡ client_moved v (record (v.client) { linked = Some (row, found) }) → May j (party_of y) (Push row head found)
+may_push j v y row head found may is = subst (λ (x : WaitView HashView). May j (party_of x) (Push row head found)) (sym is) (may.inside, (may.ready.0, may.ready.1, refl, may.route))

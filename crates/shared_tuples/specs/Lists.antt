@@ -9,6 +9,8 @@ use Rattle.join_law.specs.Layout.{Join, SizesOf, heads, chain_no, store_no, oute
 use Rattle.join_law.specs.Phases.{WithSizes}
 use Rattle.join_law.specs.Machine.{MayPush, MayTake, source_head, source_phase}
 use Rattle.join_law.specs.Views.{View}
+use Rattle.shared_tuples.specs.declared.sizes.Growth.{Growth}
+use Rattle.shared_tuples.specs.Growing.{bar_of}
 use Rattle.shared_tuples.specs.Tuples.{IsReady, Routed, IsRowOf}
 
 -- the head of a route's chain, and of the store of a side and a batch
@@ -34,6 +36,12 @@ abbrev pub IsStore : Source → Side → ℕ → Type 0
 IsStore (from.Inner half b) side batch = (side ≡ Inner) × (b ≡ batch)
 IsStore (from.Outer b) side batch = (side ≡ Outer) × (b ≡ batch)
 IsStore (from.Old bar turn head) side batch = ⊥
+
+-- the source is that head of the old half
+abbrev pub IsOld : Source → Growth → ℕ → Type 0
+IsOld (from.Inner half b) growth turn = ⊥
+IsOld (from.Outer b) growth turn = ⊥
+IsOld (from.Old bar t head) growth turn = (bar ≡ bar_of growth) × (t ≡ turn)
 
 -- the row came from there: of a batch's store it is a row of its side and of the batch
 abbrev pub IsFrom : Join → View → Source → ℕ → Type 0

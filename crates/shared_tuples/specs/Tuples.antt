@@ -25,28 +25,28 @@ abbrev pub IsReady : View → ℕ → Type 0
 IsReady v row = InHand v row × (v.client.hashed ≡ Some row)
 
 -- the seat knows the sizes, and they are in force: while no growth changes them, or past HASH_INNER
-abbrev pub KnowsSizes : Join → View → Type 0
-KnowsSizes j v = WithSizes v (λ z. ⊤) × ((growth_place j v ≡ true) ⊎ ((phase : ℕ) × (At v build phase) × (HASH_OUTER ≤ phase)))
+abbrev pub KnowsSizes : View → Type 0
+KnowsSizes v = WithSizes v (λ z. ⊤) × ((growth_place v ≡ true) ⊎ ((phase : ℕ) × (At v build phase) × (HASH_OUTER ≤ phase)))
 
 -- inner rows may be put while they are hashed and no growth changes the sizes
-abbrev pub Hashing : Join → View → Type 0
-Hashing j v = (At v build HASH_INNER) × (growth_place j v ≡ true)
+abbrev pub Hashing : View → Type 0
+Hashing v = (At v build HASH_INNER) × (growth_place v ≡ true)
 
 -- rows go into the inner stores in HASH_INNER, but for batch 0, whose rows go into chains; into the outer stores in HASH_OUTER
-abbrev pub FillsStore : Join → View → Side → ℕ → Type 0
-FillsStore j v Inner batch = Hashing j v × (1 ≤ batch)
-FillsStore j v Outer batch = At v build HASH_OUTER
+abbrev pub FillsStore : View → Side → ℕ → Type 0
+FillsStore v Inner batch = Hashing v × (1 ≤ batch)
+FillsStore v Outer batch = At v build HASH_OUTER
 
 pub record MayPut (j : Join) (v : View) (side : Side) (batch row : ℕ) : Type 0 where
   pub ready : IsReady v row
   pub of_side : IsOf j side row
   pub few : batch < 64
-  pub fills : FillsStore j v side batch
+  pub fills : FillsStore v side batch
   pub route : Routed j v row (λ z x. batch_of z x ≡ batch)
 
 -- rows of batch 0 go into chains in HASH_INNER, those of each batch in its LOAD
-abbrev pub FillsChain : Join → View → ℕ → Type 0
-FillsChain j v batch = (Hashing j v × (batch ≡ 0)) ⊎ ((At v build RUN) × (At v (batch_bar batch) LOAD))
+abbrev pub FillsChain : View → ℕ → Type 0
+FillsChain v batch = (Hashing v × (batch ≡ 0)) ⊎ ((At v build RUN) × (At v (batch_bar batch) LOAD))
 
 -- the route of a hash, and of some hash
 abbrev pub Leads : SizesOf → ℕ → Route → Type 0
@@ -58,7 +58,7 @@ IsRoute z route = (x : ℕ) × Leads z x route
 pub record MayInsert (j : Join) (v : View) (route : Route) (row : ℕ) : Type 0 where
   pub ready : IsReady v row
   pub inner : IsOf j Inner row
-  pub fills : FillsChain j v route.batch
+  pub fills : FillsChain v route.batch
   pub leads : Routed j v row (λ z x. Leads z x route)
 
 -- inner stores are emptied in LOAD, outer stores in PROBE

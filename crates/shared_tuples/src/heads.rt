@@ -5,11 +5,12 @@ ghost use Rattle.join_law.specs.Layout.{heads};
 ghost use Rattle.join_law.specs.Phases.{WithSizes};
 ghost use Rattle.join_law.specs.Routes.{chain_at};
 ghost use Rattle.join_party.specs.Joins.{join};
-ghost use Rattle.shared_tuples.specs.Lists.{IsStore, MayTakeFrom, chain_head, store_head};
+ghost use Rattle.shared_tuples.specs.Growing.{MayTakeOld};
+ghost use Rattle.shared_tuples.specs.Lists.{IsOld, IsStore, MayTakeFrom, chain_head, store_head};
 ghost use Rattle.shared_tuples.specs.Tuples.{IsRoute, KnowsSizes, MayTakeOut};
 
 use crate::StoreNo;
-use crate::sizes::{Sizes, read_sizes};
+use crate::sizes::{Growth, Sizes, read_sizes};
 use join_party::{HashParty, Source};
 use row_model::{Route, Side};
 use wait_core::{WaitSeat, WaitTable};
@@ -37,7 +38,7 @@ pub(crate) fn chain_head<'r>(
 ) -> u32
     requires table { seat.old.table_id ≡ waits.now.table_id }
     requires idle { seat.old.view.place ≡ [] }
-    requires known { KnowsSizes (join waits.now.party) (party_of seat.old.view) }
+    requires known { KnowsSizes (party_of seat.old.view) }
     requires route { WithSizes (party_of seat.old.view) (λ z. IsRoute z route) }
     ensures table { (seat.new.table_id ≡ seat.old.table_id) × (seat.new.id ≡ seat.old.id) }
     ensures view { seat.new.view ≡ seat.old.view }
@@ -57,7 +58,7 @@ pub fn chain_of<'r>(
 ) -> u32
     requires table { seat.old.table_id ≡ waits.now.table_id }
     requires idle { seat.old.view.place ≡ [] }
-    requires known { KnowsSizes (join waits.now.party) (party_of seat.old.view) }
+    requires known { KnowsSizes (party_of seat.old.view) }
     ensures table { (seat.new.table_id ≡ seat.old.table_id) × (seat.new.id ≡ seat.old.id) }
     ensures view { seat.new.view ≡ seat.old.view }
     ensures inside { result < heads (join waits.now.party) }
@@ -69,6 +70,40 @@ pub fn chain_of<'r>(
     chain_place(chains, sizes, route)
 }
 
+// A head of the half that a growth leaves, by its turn among those that may hold rows: the chains of batch 0,
+// then the stores of the other batches.
+pub(crate) fn old_source<'r>(
+    waits: &WaitTable<HashParty<'r>>,
+    seat: &mut WaitSeat<HashParty<'r>>,
+    growth: Growth,
+    turn: u32,
+) -> Source
+    requires table { seat.old.table_id ≡ waits.now.table_id }
+    requires idle { seat.old.view.place ≡ [] }
+    requires turn { MayTakeOld (join waits.now.party) (party_of seat.old.view) growth turn }
+    ensures table { (seat.new.table_id ≡ seat.old.table_id) × (seat.new.id ≡ seat.old.id) }
+    ensures view { seat.new.view ≡ seat.old.view }
+    ensures may { MayTakeFrom (join waits.now.party) (party_of seat.old.view) result }
+    ensures old { IsOld result growth turn }
+{
+    let party = waits.party();
+    let old = read_sizes(waits, seat).before(growth, party.first_batches);
+    let head = if turn < old.buckets {
+        let route = Route {
+            bucket: turn,
+            batch: 0,
+        };
+        chain_place(party.chains, old, route)
+    } else {
+        2 * party.chains + (old.half * 64 + (turn - old.buckets + 1))
+    };
+    Source::Old {
+        bar: growth.bar(),
+        turn,
+        head,
+    }
+}
+
 // The head of the store of a side and a batch.
 pub(crate) fn store_head<'r>(
     waits: &WaitTable<HashParty<'r>>,
@@ -77,7 +112,7 @@ pub(crate) fn store_head<'r>(
 ) -> u32
     requires table { seat.old.table_id ≡ waits.now.table_id }
     requires idle { seat.old.view.place ≡ [] }
-    requires known { KnowsSizes (join waits.now.party) (party_of seat.old.view) }
+    requires known { KnowsSizes (party_of seat.old.view) }
     requires few { store.batch < 64 }
     ensures table { (seat.new.table_id ≡ seat.old.table_id) × (seat.new.id ≡ seat.old.id) }
     ensures view { seat.new.view ≡ seat.old.view }

@@ -2,11 +2,12 @@
 //! batches (PostgreSQL's `sharedtuplestore.c`) and the chains of the hash table (`nodeHash.c`).
 #![tactic(auto)]
 
-ghost use Rattle.std.specs.Prelude.{◌≡◌, [], MatchOption};
+ghost use Rattle.std.specs.Prelude.{◌≡◌, ◌<◌, [], MatchOption};
 ghost use Rattle.wait_core.specs.Seating.{client_moved, party_of};
 ghost use Rattle.join_law.specs.Views.{dropped};
 ghost use Rattle.join_law.specs.Machine.{took};
 ghost use Rattle.join_party.specs.Joins.{join};
+ghost use Rattle.shared_tuples.specs.Growing.{MayTakeOld, found_swept};
 ghost use Rattle.shared_tuples.specs.Tuples.{MayPut, MayInsert, MayTakeOut, IsRowOf, found_empty};
 
 mod heads;
@@ -14,11 +15,12 @@ mod lists;
 mod sizes;
 
 pub use heads::chain_of;
-use heads::{chain_head, source_of, store_head};
+use heads::{chain_head, old_source, source_of, store_head};
 use join_party::{JoinSeats, JoinTables};
+pub use lists::hash_word;
 use lists::{push, take_first};
 use row_model::{Route, Side};
-pub use sizes::Sizes;
+pub use sizes::{Growth, Sizes};
 use std::sync::Wait;
 
 /// The store of a side's rows of a batch.
@@ -85,5 +87,27 @@ pub fn take<'r, R: Wait>(
     ensures row { MatchOption result (Unit {0}) (λ row. IsRowOf (join tables.now.waits.party) (party_of seats.old.wait.view) store.side store.batch row) }
 {
     let source = source_of(&tables.waits, &mut seats.wait, store);
+    take_first(rt, &tables.waits, &mut seats.wait, source)
+}
+
+/// Takes an inner row out of the half that a growth moves rows out of, at the head of this turn: the chains of
+/// batch 0 come first, then the stores of the other batches. None only where the head was found empty
+/// (`ExecParallelHashRepartitionFirst` and `ExecParallelHashRepartitionRest`, `ExecParallelHashIncreaseNumBuckets`).
+pub fn take_old<'r, R: Wait>(
+    rt: &R,
+    tables: &JoinTables<'r>,
+    seats: &mut JoinSeats<'r>,
+    growth: Growth,
+    turn: u32,
+) -> Option<u32>
+    requires table { seats.old.wait.table_id ≡ tables.now.waits.table_id }
+    requires idle { seats.old.wait.view.place ≡ [] }
+    requires turn { MayTakeOld (join tables.now.waits.party) (party_of seats.old.wait.view) growth turn }
+    ensures table { (seats.new.wait.table_id ≡ seats.old.wait.table_id) × (seats.new.wait.id ≡ seats.old.wait.id) }
+    ensures others { (seats.new.lock ≡ seats.old.lock) × (seats.new.signal ≡ seats.old.signal) }
+    ensures taken { MatchOption result (seats.new.wait.view ≡ client_moved seats.old.wait.view (found_swept growth turn (party_of seats.old.wait.view))) (λ row. seats.new.wait.view ≡ client_moved seats.old.wait.view (took seats.old.wait.view.client row)) }
+    ensures row { MatchOption result (Unit {0}) (λ row. row < (join tables.now.waits.party).inner) }
+{
+    let source = old_source(&tables.waits, &mut seats.wait, growth, turn);
     take_first(rt, &tables.waits, &mut seats.wait, source)
 }

@@ -1,10 +1,12 @@
 //! How a row goes to the front of a list, and how the first row of one is taken.
-ghost use Rattle.std.specs.Prelude.{◌≡◌, [], MatchOption};
+ghost use Rattle.std.specs.Prelude.{◌≡◌, ◌<◌, [], MatchOption, Some};
 ghost use Rattle.wait_core.specs.Seating.{client_moved, party_of};
+ghost use Rattle.join_law.specs.Layout.{rows};
 ghost use Rattle.join_law.specs.Machine.{saw_end, took};
 ghost use Rattle.join_law.specs.Views.{dropped};
 ghost use Rattle.join_party.specs.Joins.{join};
 ghost use Rattle.shared_tuples.specs.Lists.{MayPushTo, MayTakeFrom, IsFrom};
+ghost use Rattle.shared_tuples.specs.Tuples.{IsReady};
 
 use crossbeam_utils::Backoff;
 use join_party::{HashParty, HashStep, Look, Source, Word};
@@ -93,4 +95,22 @@ pub(crate) fn take_first<'r, R: Wait>(
         give_way();
     }
     unreachable!()
+}
+
+/// The hash of the key of a row in hand whose hash word is stored, and known to the seat.
+pub fn hash_word<'r>(
+    waits: &WaitTable<HashParty<'r>>,
+    seat: &mut WaitSeat<HashParty<'r>>,
+    row: u32,
+) -> u32
+    requires table { seat.old.table_id ≡ waits.now.table_id }
+    requires idle { seat.old.view.place ≡ [] }
+    requires row { IsReady (party_of seat.old.view) row × (row < rows (join waits.now.party)) }
+    ensures table { (seat.new.table_id ≡ seat.old.table_id) × (seat.new.id ≡ seat.old.id) }
+    ensures view { seat.new.view ≡ seat.old.view }
+    ensures hash { (join waits.now.party).hash row ≡ Some result }
+{
+    waits
+        .client(seat, HashStep::Load(Look::Plain(Word::Hash(row))))
+        .old as u32
 }
