@@ -6,7 +6,7 @@ use Rattle.row_model.specs.declared.Route.{Route}
 use Rattle.row_model.specs.Routes as routes
 use Rattle.wait_core.specs.declared.view.WaitView.{WaitView}
 use Rattle.wait_core.specs.Parties.{phase_of}
-use Rattle.wait_core.specs.Seating.{client_moved}
+use Rattle.wait_core.specs.Seating.{client_moved, party_of}
 use Rattle.join_law.specs.declared.view.HashView.{HashView}
 use Rattle.join_law.specs.declared.view.Known.{Known}
 use Rattle.join_law.specs.Layout.{Join, SizesOf, sizes_of}
@@ -19,7 +19,7 @@ use Rattle.shared_tuples.specs.declared.sizes.Sizes.{Sizes}
 use Rattle.shared_tuples.specs.Tuples.{Leads, Routed}
 use Rattle.join_law.proofs.Rows.{times_stretch}
 use Rattle.seat_roster.specs.Roster.{times}
-use Rattle.hash_build.specs.Hashing.{ClaimsNone, HashesOnly, KnowsForGood, with_known, with_late}
+use Rattle.hash_build.specs.Hashing.{ClaimsNone, HashesAt, HashesOnly, KeepsSizes, KnowsThese, with_known, with_late}
 
 -- a seat that saw and claimed nothing of the cursors may still find an end by an add
 pub still_ends : (v w : WaitView HashView) (c : HashView) → w ≡ client_moved v c → c.inner_ended ≡ v.client.inner_ended → c.outer_ended ≡ v.client.outer_ended → c.inner_claims ≡ v.client.inner_claims → c.outer_claims ≡ v.client.outer_claims
@@ -27,18 +27,27 @@ pub still_ends : (v w : WaitView HashView) (c : HashView) → w ≡ client_moved
 still_ends v w c is a b d e may Inner = subst (λ (y : WaitView HashView). MayStillEnd y.client Inner) (sym is) (λ none. subst (λ (n : ℕ). 1 ≤ n) (sym d) (may Inner (sym a ∙ none)))
 still_ends v w c is a b d e may Outer = subst (λ (y : WaitView HashView). MayStillEnd y.client Outer) (sym is) (λ none. subst (λ (n : ℕ). 1 ≤ n) (sym e) (may Outer (sym b ∙ none)))
 
--- sizes known for good are the known ones
-pub known_good : (j : Join) (v : View) (sizes : Sizes) → (k : KnowsForGood j v.client.known sizes) → known_word v ≡ Some k.word
-known_good j v sizes k = ap (λ o. known_at o (phase_of v.attached 1) (phase_of v.attached 2)) k.is
+-- a seat that stays attached as it is, and knows the same of the sizes, may go on by them
+pub knows_still : (j : Join) (v w : WaitView HashView) (c : HashView) (sizes : Sizes) → w ≡ client_moved v c → c.known ≡ v.client.known → KnowsThese j (party_of v) sizes → KnowsThese j (party_of w) sizes
+knows_still j v w c sizes is same k = record {
+  word = k.word;
+  is = ap (λ (y : WaitView HashView). known_word (party_of y)) is ∙ (ap (λ (o : Option Known). known_at o (phase_of v.attached 1) (phase_of v.attached 2)) same ∙ k.is);
+  are = k.are;
+  fit = k.fit;
+}
+
+pub hashes_still : (v w : WaitView HashView) (c : HashView) (side : Side) → w ≡ client_moved v c → HashesAt (party_of v) side → HashesAt (party_of w) side
+hashes_still v w c Inner is h = subst (λ (y : WaitView HashView). HashesAt (party_of y) Inner) (sym is) h
+hashes_still v w c Outer is h = subst (λ (y : WaitView HashView). HashesAt (party_of y) Outer) (sym is) h
 
 -- where a route leads
-pub leads_by : (j : Join) (v : View) (sizes : Sizes) (route : Route) (row x : ℕ) → KnowsForGood j v.client.known sizes → j.hash row ≡ Some x → route.bucket ≡ routes.bucket_of sizes.buckets x → route.batch ≡ routes.batch_of sizes.buckets sizes.batches x
+pub leads_by : (j : Join) (v : View) (sizes : Sizes) (route : Route) (row x : ℕ) → KnowsThese j v sizes → j.hash row ≡ Some x → route.bucket ≡ routes.bucket_of sizes.buckets x → route.batch ≡ routes.batch_of sizes.buckets sizes.batches x
     → Routed j v row (λ z x. Leads z x route) × (route.batch < 64)
 leads_by j v sizes route row x k key bucket batch =
     let z : SizesOf = sizes_of k.word in
     let b : routes.bucket_of z.buckets x ≡ route.bucket = ap (λ (n : ℕ). routes.bucket_of n x) (sym k.are.1) ∙ sym bucket in
     let c : routes.batch_of z.buckets z.batches x ≡ route.batch = ap {A = ℕ × ℕ} (λ n. routes.batch_of n.0 n.1 x) (λ i. (sym k.are.1 i, sym k.are.2 i)) ∙ sym batch in (
-      with_there (j.hash row) _ x key (with_there (known_word v) _ k.word (known_good j v sizes k) (b, c)),
+      with_there (j.hash row) _ x key (with_there (known_word v) _ k.word k.is (b, c)),
       subst (λ (n : ℕ). n < 64) c (batch_few j z k.fit x),
     )
 
@@ -50,13 +59,14 @@ hashes_on u v w a b = record {
   emptied = b.emptied ∙ a.emptied;
   drained = b.drained ∙ a.drained;
   done = b.done ∙ a.done;
-  swept = b.swept ∙ a.swept;
-  stored = b.stored ∙ a.stored;
   late = b.late ∙ a.late;
 }
 
 pub claims_none : (u v w : HashView) → ClaimsNone u v → ClaimsNone v w → ClaimsNone u w
-claims_none u v w a b = record { known = b.known ∙ a.known; chunks = b.chunks ∙ a.chunks; claimed = b.claimed ∙ a.claimed }
+claims_none u v w a b = record { chunks = b.chunks ∙ a.chunks; claimed = b.claimed ∙ a.claimed }
+
+pub keeps_sizes : (u v w : HashView) → KeepsSizes u v → KeepsSizes v w → KeepsSizes u w
+keeps_sizes u v w a b = record { known = b.known ∙ a.known; stored = b.stored ∙ a.stored; swept = b.swept ∙ a.swept }
 
 pub view_on : (u v w : WaitView HashView) → v ≡ client_moved u v.client → w ≡ client_moved v w.client → w ≡ client_moved u w.client
 view_on u v w a b = b ∙ ap (λ (y : WaitView HashView). client_moved y w.client) a

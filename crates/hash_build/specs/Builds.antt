@@ -7,7 +7,7 @@ use Rattle.join_law.specs.Stands.{SizesFit}
 use Rattle.join_party.specs.declared.tables.JoinSeats.{JoinSeats}
 use Rattle.hash_build.specs.declared.Built.{Built}
 use Rattle.hash_build.specs.declared.Built.TheVariants.{Late, Ready}
-use Rattle.hash_build.specs.Hashing.{IsFree, Reached, SameWaitNumbers, for_good, with_known, with_late}
+use Rattle.hash_build.specs.Hashing.{IsFree, Reached, SameWaitNumbers, for_good, with_late}
 
 -- a worker that begins is in no call and has no lock, waits for no condition, is attached to nothing, and has no row in hand
 pub record Begins (s : JoinSeats) : Type 0 where
@@ -20,7 +20,7 @@ pub record Begins (s : JoinSeats) : Type 0 where
 pub record FoundDone (v w : JoinSeats) (looks_before looks_after : ℕ) : Type 0 where
   pub idle : (w.wait.view.place ≡ []) × (w.wait.view.target ≡ None)
   pub away : w.wait.view.attached ≡ []
-  pub late : w.wait.view.client ≡ with_late (with_known v.wait.view.client w.wait.view.client.known)
+  pub late : w.wait.view.client ≡ with_late v.wait.view.client
   pub numbers : SameWaitNumbers v.wait.view w.wait.view
   pub others : (w.lock ≡ v.lock) × (w.signal ≡ v.signal)
   pub looks : looks_after ≡ looks_before

@@ -1,3 +1,5 @@
+pub mod Wanted
 pub mod Reports
 pub mod Hashing
 pub mod Builds
+pub mod Growths

@@ -8,17 +8,24 @@ ghost use Rattle.join_party.specs.Joins.{join};
 ghost use Rattle.join_party.specs.Workers.{IsAt};
 ghost use Rattle.hash_build.specs.Builds.{Begins, Builds};
 
+mod batches;
 mod chunks;
+mod growths;
+mod moves;
 mod phases;
 mod report;
+mod resize;
 mod rows;
+mod sizes;
 #[cfg(test)]
 mod tests;
+mod wanted;
 
 use join_party::{JoinSeats, JoinTables};
 use phase_barrier::attach;
-use phases::{FREE, RUN, go_on, leave_late, read_sizes, the_build, work};
+use phases::{FREE, RUN, go_on, leave_late, the_build, work};
 use proc_table::{Gate, Point, Steps};
+use sizes::read_sizes;
 use std::sync::Wait;
 use std::sync::ledger::Ledger;
 
@@ -53,16 +60,16 @@ pub fn build<'r, G: Gate, R: Wait, L: Ledger>(
     gate.at(worker, Point::Started);
     let found = attach(rt, &tables.waits, &mut seats.wait, the_build());
     gate.at(worker, Point::Attached { phase: found });
-    let sizes = read_sizes(tables, seats);
     if found >= FREE {
         leave_late(rt, tables, seats);
         return Built::Late;
     }
     let mut elected = false;
     for phase in found..RUN {
-        work(rt, tables, seats, sizes, phase, worker, gate, steps);
+        work(rt, tables, seats, phase, worker, gate, steps);
         elected = go_on(rt, tables, seats, phase);
     }
+    let sizes = read_sizes(tables, seats);
     Built::Ready {
         buckets: sizes.buckets,
         batches: sizes.batches,

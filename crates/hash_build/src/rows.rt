@@ -1,11 +1,11 @@
 //! How a claimed row is hashed: it goes where the hash of its key leads, or is set aside.
-ghost use Rattle.std.specs.Prelude.{◌≡◌, ◌≤◌, ◌<◌, ◌+◌, false, [], MatchOption, ⊤};
+ghost use Rattle.std.specs.Prelude.{◌≡◌, ◌<◌, ◌+◌, [], MatchOption, Some, ⊤};
 ghost use Rattle.wait_core.specs.Seating.{client_moved, party_of};
-ghost use Rattle.join_law.specs.Machine.{At, InHand, claim_phase};
-ghost use Rattle.join_law.specs.Phases.{build};
+ghost use Rattle.join_law.specs.Machine.{InHand};
 ghost use Rattle.join_law.specs.Views.{dropped, without};
 ghost use Rattle.join_party.specs.Joins.{join};
-ghost use Rattle.hash_build.specs.Hashing.{ClaimsNone, HashesOnly, IsRow, KnowsForGood, MayPlace};
+ghost use Rattle.shared_tuples.specs.Tuples.{IsReady};
+ghost use Rattle.hash_build.specs.Hashing.{ClaimsNone, HashesAt, HashesOnly, IsRow, KeepsSizes, KnowsThese, MayPlace};
 
 use join_party::{HashStep, JoinSeats, JoinTables, Look};
 use proc_table::Steps;
@@ -63,6 +63,32 @@ fn place<'r, R: Wait>(
     }
 }
 
+// Puts a row of this hash, which is stored, where the sizes lead it, and answers its batch.
+pub(crate) fn place_hashed<'r, R: Wait>(
+    rt: &R,
+    tables: &JoinTables<'r>,
+    seats: &mut JoinSeats<'r>,
+    sizes: Sizes,
+    side: Side,
+    hash: u32,
+    row: u32,
+) -> u32
+    requires table { seats.old.wait.table_id ≡ tables.now.waits.table_id }
+    requires idle { seats.old.wait.view.place ≡ [] }
+    requires phase { HashesAt (party_of seats.old.wait.view) side }
+    requires known { KnowsThese (join tables.now.waits.party) (party_of seats.old.wait.view) sizes }
+    requires row { IsRow (join tables.now.waits.party) side row × IsReady (party_of seats.old.wait.view) row }
+    requires hash { (join tables.now.waits.party).hash row ≡ Some hash }
+    ensures table { (seats.new.wait.table_id ≡ seats.old.wait.table_id) × (seats.new.wait.id ≡ seats.old.wait.id) }
+    ensures others { (seats.new.lock ≡ seats.old.lock) × (seats.new.signal ≡ seats.old.signal) }
+    ensures placed { seats.new.wait.view ≡ client_moved seats.old.wait.view (dropped seats.old.wait.view.client row) }
+    ensures few { result < 64 }
+{
+    let route = Route::of(hash, sizes.buckets, sizes.batches);
+    place(rt, tables, seats, side, route, row);
+    route.batch
+}
+
 // Hashes a row in hand, and answers its batch. A row without a key is set aside.
 pub(crate) fn hash_row<'r, R: Wait, L: Ledger>(
     rt: &R,
@@ -75,13 +101,13 @@ pub(crate) fn hash_row<'r, R: Wait, L: Ledger>(
 ) -> Option<u32>
     requires table { seats.old.wait.table_id ≡ tables.now.waits.table_id }
     requires idle { seats.old.wait.view.place ≡ [] }
-    requires phase { At (party_of seats.old.wait.view) build (claim_phase side) }
-    requires known { KnowsForGood (join tables.now.waits.party) seats.old.wait.view.client.known sizes }
+    requires phase { HashesAt (party_of seats.old.wait.view) side }
+    requires known { KnowsThese (join tables.now.waits.party) (party_of seats.old.wait.view) sizes }
     requires row { IsRow (join tables.now.waits.party) side row × InHand (party_of seats.old.wait.view) row }
     ensures table { (seats.new.wait.table_id ≡ seats.old.wait.table_id) × (seats.new.wait.id ≡ seats.old.wait.id) }
     ensures others { (seats.new.lock ≡ seats.old.lock) × (seats.new.signal ≡ seats.old.signal) }
     ensures view { seats.new.wait.view ≡ client_moved seats.old.wait.view seats.new.wait.view.client }
-    ensures only { HashesOnly seats.old.wait.view.client seats.new.wait.view.client × ClaimsNone seats.old.wait.view.client seats.new.wait.view.client }
+    ensures only { HashesOnly seats.old.wait.view.client seats.new.wait.view.client × ClaimsNone seats.old.wait.view.client seats.new.wait.view.client × KeepsSizes seats.old.wait.view.client seats.new.wait.view.client }
     ensures hand { seats.new.wait.view.client.hand ≡ without row seats.old.wait.view.client.hand }
     ensures look { steps.new ≡ steps.old + 1 }
     ensures batch { MatchOption result ⊤ (λ b. b < 64) }
@@ -95,7 +121,5 @@ pub(crate) fn hash_row<'r, R: Wait, L: Ledger>(
     tables
         .waits
         .client(&mut seats.wait, HashStep::StoreHash { row, hash });
-    let route = Route::of(hash, sizes.buckets, sizes.batches);
-    place(rt, tables, seats, side, route, row);
-    Some(route.batch)
+    Some(place_hashed(rt, tables, seats, sizes, side, hash, row))
 }

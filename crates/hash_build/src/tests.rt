@@ -127,7 +127,7 @@ fn each_row_is_placed<'r, R: Abort>(
     requires table { seats.wait.table_id ≡ tables.now.waits.table_id }
     requires idle { seats.wait.view.place ≡ [] }
 {
-    let found = find_places(rt, alloc, &tables.waits, seats);
+    let (half, found) = find_places(rt, alloc, &tables.waits, seats);
     let Built::Ready {
         buckets,
         batches,
@@ -141,6 +141,7 @@ fn each_row_is_placed<'r, R: Abort>(
         Blank::new(1),
         alloc,
         tables.waits.party(),
+        half,
         buckets,
         batches,
     );
@@ -172,16 +173,41 @@ fn build_alone<R: Abort + Wait>(
 #[test]
 fn one_worker_places_each_row_once(rt: HostRuntime) -> Result<(), Fail> {
     let cases = [
-        (Keys::Different(2), Keys::Different(3), (1, 1024, 65_536), 1),
-        (Keys::Equal(40), Keys::Equal(3), (4, 1, 2), 8),
-        (Keys::Empty(0), Keys::Empty(0), (1, 1, 1), 1),
-        (Keys::Empty(1), Keys::Different(1), (1, 1, 1), 1),
-        (Keys::Empty(65), Keys::Empty(200), (2, 4, 16), 4),
-        (Keys::Different(64), Keys::Equal(65), (2, 4, 16), 4),
-        (Keys::Different(65), Keys::Empty(64), (16, 16, 1), 32),
-        (Keys::Mixed(1000), Keys::Mixed(1001), (3, 64, 100), 8),
+        (
+            Keys::Different(2),
+            Keys::Different(3),
+            (1, 1024, 65_536),
+            (1024, 1),
+        ),
+        (Keys::Equal(40), Keys::Equal(3), (4, 1, 2), (1, 8)),
+        (Keys::Equal(1000), Keys::Equal(3), (4, 1, 2), (1, 8)),
+        (Keys::Empty(0), Keys::Empty(0), (1, 1, 1), (1, 1)),
+        (Keys::Empty(1), Keys::Different(1), (1, 1, 1), (1, 1)),
+        (Keys::Empty(65), Keys::Empty(200), (2, 4, 16), (4, 1)),
+        (Keys::Different(64), Keys::Equal(65), (2, 4, 16), (4, 4)),
+        (Keys::Different(65), Keys::Empty(64), (16, 16, 1), (16, 64)),
+        (
+            Keys::Different(65),
+            Keys::Different(65),
+            (1, 1, 65_536),
+            (4, 1),
+        ),
+        (Keys::Different(60), Keys::Different(60), (4, 1, 8), (1, 8)),
+        (Keys::Mixed(1000), Keys::Mixed(1001), (3, 64, 100), (64, 16)),
+        (
+            Keys::Different(5000),
+            Keys::Different(10),
+            (1, 1, 1000),
+            (1024, 8),
+        ),
+        (
+            Keys::Different(20_000),
+            Keys::Different(10),
+            (1, 1, 65_536),
+            (32_768, 1),
+        ),
     ];
-    for (inner, outer, (workers, buckets, mem), batches) in cases {
+    for (inner, outer, (workers, buckets, mem), (buckets_then, batches)) in cases {
         let inner = rows_of(rt.alloc(), inner)?;
         let outer = rows_of(rt.alloc(), outer)?;
         let plan = Plan {
@@ -191,13 +217,13 @@ fn one_worker_places_each_row_once(rt: HostRuntime) -> Result<(), Fail> {
         };
         let (built, placed) = build_alone(&rt, rt.alloc(), &inner, &outer, plan);
         let elected = true;
-        assert!(rt;
-            built
-                == Built::Ready {
-                    buckets,
-                    batches,
-                    elected
-                }
+        assert_eq!(rt;
+            built,
+            Built::Ready {
+                buckets: buckets_then,
+                batches,
+                elected
+            }
         );
         assert!(rt; placed);
     }

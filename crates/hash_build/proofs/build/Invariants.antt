@@ -1,9 +1,8 @@
 use Rattle.std.proofs.Common.{◌≡◌, true, [], ◌∷◌, None}
 use Rattle.wait_core.specs.Parties.{Elected}
 use Rattle.join_law.specs.Phases.{build}
-use Rattle.join_party.specs.Joins.{join}
 use Rattle.join_party.specs.Workers.{IsAt}
-use Rattle.hash_build.specs.Hashing.{KnowsForGood, Reached}
+use Rattle.hash_build.specs.Hashing.{Reached}
 use Rattle.hash_build.proofs.build.Given as goal
 
 abbrev pub invariant-loop-phase : goal.invariant-loop-phase
@@ -11,4 +10,4 @@ invariant-loop-phase g l =
     let v = l.fn.seats in
     let w = l.seats in
     IsAt l.tables w × (w.wait.id ≡ v.wait.id) × (w.wait.view.place ≡ []) × (w.wait.view.target ≡ None) × (w.wait.view.attached ≡ (build, l.phase) ∷ [])
-    × KnowsForGood (join l.tables.waits.party) w.wait.view.client.known l.sizes × (l.elected ≡ true → Elected w.wait.view.elections build l.phase) × Reached v w l.fn.steps l.steps
+    × (l.elected ≡ true → Elected w.wait.view.elections build l.phase) × Reached v w l.fn.steps l.steps

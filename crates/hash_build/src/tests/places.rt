@@ -130,15 +130,30 @@ fn walk_all<'r, R: Abort>(
     }
 }
 
-// Where each row is found.
+// The half of the heads that holds the rows.
+fn load_half<'r>(waits: &WaitTable<HashParty<'r>>, seat: &mut WaitSeat<HashParty<'r>>) -> u32
+    requires table { seat.old.table_id ≡ waits.now.table_id }
+    requires idle { seat.old.view.place ≡ [] }
+    ensures table { seat.new.table_id ≡ waits.now.table_id }
+    ensures idle { seat.new.view.place ≡ [] }
+    ensures half { result ≤ 1 }
+{
+    let word = waits
+        .client(seat, HashStep::Load(Look::Plain(Word::Sizes)))
+        .old;
+    (word % 2) as u32
+}
+
+// The half of the heads that holds the rows, and where each row is found.
 pub(super) fn find_places<'r, R: Abort>(
     rt: &R,
     alloc: Global,
     waits: &WaitTable<HashParty<'r>>,
     seats: JoinSeats<'r>,
-) -> Vec<Place>
+) -> (u32, Vec<Place>)
     requires table { seats.wait.table_id ≡ waits.now.table_id }
     requires idle { seats.wait.view.place ≡ [] }
+    ensures half { result.0 ≤ 1 }
 {
     let JoinSeats {
         lock,
@@ -149,22 +164,25 @@ pub(super) fn find_places<'r, R: Abort>(
     let ample = places
         .resize(row_count(waits.party()) as usize, Place::Nowhere)
         .is_ok();
+    let half = load_half(waits, &mut wait);
     walk_all(rt, waits, &mut wait, places.as_mut_slice());
     mem::forget(lock);
     mem::forget(wait);
     mem::forget(signal);
     assert!(rt; ample);
-    places
+    (half, places)
 }
 
-// Where a row of this hash is to be. Rows stand in the first half of the heads.
+// Where a row of this hash is to be, in this half of the heads.
 fn place_of(
     party: &HashParty<'_>,
+    half: u32,
     side: Side,
     hash: Option<u32>,
     buckets: u32,
     batches: u32,
 ) -> Place
+    requires half { half ≤ 1 }
     requires buckets { IsPowerOfTwo buckets × (buckets ≤ 262144) }
     requires batches { IsPowerOfTwo batches × (batches ≤ 64) }
 {
@@ -173,9 +191,10 @@ fn place_of(
     };
     let Route { bucket, batch } = Route::of(hash, buckets, batches);
     let stores = 2 * party.chains;
+    let first = if half == 0 { 0 } else { party.chains };
     let head = match side {
-        Side::Inner if batch == 0 => bucket,
-        Side::Inner => u32::wrapping_add(stores, batch),
+        Side::Inner if batch == 0 => u32::wrapping_add(first, bucket),
+        Side::Inner => u32::wrapping_add(stores + half * 64, batch),
         Side::Outer => u32::wrapping_add(stores + 128, batch),
     };
     Place::In {
@@ -190,17 +209,19 @@ fn expect_side<R: Abort, L: Ledger>(
     party: &HashParty<'_>,
     rows: &Rows,
     side: Side,
+    half: u32,
     sizes: (u32, u32),
     places: &mut Vec<Place>,
     steps: &mut Steps<L>,
 )
+    requires half { half ≤ 1 }
     requires buckets { IsPowerOfTwo sizes.0 × (sizes.0 ≤ 262144) }
     requires batches { IsPowerOfTwo sizes.1 × (sizes.1 ≤ 64) }
 {
     let (buckets, batches) = sizes;
     for row in 0..rows.len() {
         let hash = rows.hash_of(row, steps);
-        let place = place_of(party, side, hash, buckets, batches);
+        let place = place_of(party, half, side, hash, buckets, batches);
         assert!(rt; places.push(place).is_ok());
     }
 }
@@ -211,9 +232,11 @@ pub(super) fn expect_places<R: Abort, L: Ledger>(
     blank: Blank,
     alloc: Global,
     party: &HashParty<'_>,
+    half: u32,
     buckets: u32,
     batches: u32,
 ) -> Vec<Place>
+    requires half { half ≤ 1 }
     requires name { blank.name ≡ L.name }
     requires parts { blank.parts ≡ L.parts }
     requires some { 0 < blank.parts }
@@ -228,6 +251,7 @@ pub(super) fn expect_places<R: Abort, L: Ledger>(
         party,
         party.inner,
         Side::Inner,
+        half,
         sizes,
         &mut places,
         &mut steps,
@@ -237,6 +261,7 @@ pub(super) fn expect_places<R: Abort, L: Ledger>(
         party,
         party.outer,
         Side::Outer,
+        half,
         sizes,
         &mut places,
         &mut steps,

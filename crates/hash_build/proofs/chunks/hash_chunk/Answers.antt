@@ -1,5 +1,5 @@
 use Rattle.std.proofs.Common.{ℕ, ◌+◌, ◌∙◌, arith}
-use Rattle.hash_build.proofs.Hashing.{claims_none, first_gone, hashes_on, view_on}
+use Rattle.hash_build.proofs.Hashing.{claims_none, first_gone, hashes_on, keeps_sizes, view_on}
 use Rattle.hash_build.proofs.chunks.hash_chunk.Goals as goal
 
 pub loop-row-preserved : goal.loop-row-preserved
@@ -18,6 +18,7 @@ loop-row-preserved g c =
       view_on v l w inv.4 hashed.view,
       hashes_on v.client l.client w.client inv.5 hashed.only.0,
       claims_none v.client l.client w.client inv.6 hashed.only.1,
-      first_gone row (c.args.chunk.first + c.args.chunk.count) l.client.hand w.client.hand less inv.7 hashed.hand,
+      keeps_sizes v.client l.client w.client inv.7 hashed.only.2,
+      first_gone row (c.args.chunk.first + c.args.chunk.count) l.client.hand w.client.hand less inv.8 hashed.hand,
       omega arith,
     )

@@ -1,13 +1,21 @@
-use Rattle.std.proofs.Common.{ℕ, subst}
-use Rattle.hash_build.specs.Reports.{ReportsChunk}
-use Rattle.hash_build.proofs.Reporting.{reports_chunk}
+use Rattle.std.proofs.Common.{ℕ, ap, subst, ◌∙◌}
+use Rattle.hash_build.specs.declared.report.Reported.{Reported}
+use Rattle.hash_build.specs.Reports.{ReportsChunk, UnderLock}
+use Rattle.hash_build.specs.Wanted.{wanted_of}
+use Rattle.hash_build.proofs.Reporting.{under_lock}
 use Rattle.hash_build.proofs.report.report.Goals as goal
 
 pub returns-clause-view : goal.returns-clause-view
 returns-clause-view g c =
     let u = c.args.seats.now.lock.view in
     let y = c.release.new.seat.view in
-    let counted = c.count_chunk.ensures.steps in
-    subst (λ (l : ℕ). ReportsChunk l c.args.count u y) c.the_lock-lock.ensures
-    (reports_chunk c.the_lock-lock.result c.args.count c.read_words-found.result counted.0 u c.acquire.new.seat.view c.read_words-found.new.seat.view c.count_chunk.new.seat.view y
-    c.acquire.ensures.view c.acquire.ensures.program c.read_words-found.ensures.steps counted.2 counted.1 c.read_words-found.ensures.lawful c.release.ensures.view c.release.ensures.program)
+    let l : ℕ = c.the_lock-lock.result in
+    let found : Reported = c.read_words-found.result in
+    let next : Reported = c.after_report-next.result in
+    subst (λ (l : ℕ). ReportsChunk l c.args.tables.now c.args.sizes c.args.count c.args.largest c.wanted_of.result u y) c.the_lock-lock.ensures (record {
+      found = found;
+      under = subst (λ (r : Reported). UnderLock l found r u y) c.after_report-next.ensures.after
+          (under_lock l found next u c.acquire.new.seat.view c.read_words-found.new.seat.view c.store_changes.new.seat.view y c.acquire.ensures.view c.acquire.ensures.program c.read_words-found.ensures.steps c.store_changes.ensures.steps
+          c.read_words-found.ensures.lawful c.release.ensures.view c.release.ensures.program);
+      tells = c.wanted_of.ensures ∙ ap (λ (r : Reported). wanted_of r.wanted) c.after_report-next.ensures.after;
+    })
