@@ -1,4 +1,3 @@
-pub mod Hashes
 pub mod Hits
 pub mod Comparing
 pub mod Loop

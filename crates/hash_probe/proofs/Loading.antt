@@ -29,15 +29,7 @@ use Rattle.hash_probe.specs.declared.HashTable.{HashTable}
 use Rattle.hash_probe.specs.Loads.{MayLoad}
 use Rattle.hash_probe.specs.Working.{KnowsTable}
 use Rattle.hash_probe.proofs.Comparing.{inner_hash}
-use Rattle.hash_probe.proofs.Hashes.{hash_few}
-
--- the word that was found is the hash of the row's key, which has 32 bits
-pub inner_found : (p : HashParty) (words : List ℕ) (views : List View) (phases : List ℕ) (h : Stands (join p) words views phases) (id : ℕ) (w : WaitView HashView) (s : IsStep views phases id (party_of w)) (row n : ℕ) → IsReady (party_of w) row → row < length p.inner.now.rows
-    → get_or words (op_at (step_op (join p) (Load (Plain (Hash row))))) 0 ≡ n → ((join p).hash row ≡ Some n) × (n < 2 ^ 32)
-inner_found p words views phases h id w s row n ready less found =
-    let there = hand_row (join p) words views phases h id (party_of w) s row ready.0 in
-    let key = hash_found (join p) words views phases h id (party_of w) s row n found there ready.1 in
-    (key, hash_few (key_of p.inner.now row) n (sym (inner_hash p row less) ∙ key))
+use Rattle.shared_tuples.proofs.Hashes.{hash_few}
 
 -- what the seat knows of the table is what it knows for good
 known_table : (j : Join) (v : View) (table : HashTable) → (k : KnowsTable j v.client.known table) → known_word v ≡ Some k.word

@@ -10,7 +10,7 @@ use Rattle.row_model.specs.declared.Side.{Side}
 use Rattle.row_model.specs.declared.Side.TheVariants.{Inner, Outer}
 use Rattle.row_model.specs.Table.{key_of, nested_loop}
 use Rattle.row_model.specs.Hash.{hash_of_key}
-use Rattle.hash_probe.proofs.Hashes.{hash_few}
+use Rattle.shared_tuples.proofs.Hashes.{hash_few}
 use Rattle.seat_roster.specs.Roster.{times}
 use Rattle.seat_roster.proofs.Totals.{total_at}
 use Rattle.wait_core.specs.declared.view.WaitView.{WaitView}
@@ -60,7 +60,7 @@ row_there p v row may = let r = routed (join p) v row (λ z x. At v (batch_bar (
 pub key_few : (p : HashParty) (row hash : ℕ) → IsKeyed (join p) row hash → hash < 2 ^ 32
 key_few p row hash k = hash_few (key_of p.outer.now (row - length p.inner.now.rows)) hash (sym (outer_hash p row k.outer) ∙ k.key)
 
-pub knows_sizes : (j : Join) (v : View) (row : ℕ) → MayProbe j v row → KnowsSizes j v
+pub knows_sizes : (j : Join) (v : View) (row : ℕ) → MayProbe j v row → KnowsSizes v
 knows_sizes j v row may = let r = routed j v row (λ z x. At v (batch_bar (batch_of z x)) PROBE) may.probing in (with_there (known_word v) _ r.1 r.3 tt, inr (RUN, may.running, omega arith))
 
 pub may_walk : (j : Join) (v : View) (row hash head : ℕ) → MayProbe j v row → j.hash row ≡ Some hash → head < heads j → WithSizes v (λ z. head ≡ chain_at j z hash) → MayWalk j v row head

@@ -1,37 +1,17 @@
 //! How a batch is loaded: its inner rows go from their store into the chains.
-ghost use Rattle.std.specs.Prelude.{◌≡◌, ◌<◌, [], ◌∷◌, Some};
+ghost use Rattle.std.specs.Prelude.{◌≡◌, ◌<◌, [], ◌∷◌};
 ghost use Rattle.wait_core.specs.Seating.{client_moved, party_of};
 ghost use Rattle.join_law.specs.Phases.{LOAD, RUN, batch_bar, build};
 ghost use Rattle.join_law.specs.Views.{dropped};
 ghost use Rattle.join_party.specs.Joins.{join};
-ghost use Rattle.shared_tuples.specs.Tuples.{IsReady};
 ghost use Rattle.hash_probe.specs.Loads.{IsLoaded, MayLoad, ProbesNone};
 ghost use Rattle.hash_probe.specs.Working.{IsWorking};
 
 use crate::HashTable;
-use join_party::{HashParty, HashStep, JoinSeats, JoinTables, Look, Word};
+use join_party::{JoinSeats, JoinTables};
 use row_model::{Route, Side};
-use shared_tuples::{StoreNo, insert, take};
+use shared_tuples::{StoreNo, hash_word, insert, take};
 use std::sync::Wait;
-use wait_core::{WaitSeat, WaitTable};
-
-// The hash of an inner row in hand, by its word.
-fn hash_word<'r>(
-    waits: &WaitTable<HashParty<'r>>,
-    seat: &mut WaitSeat<HashParty<'r>>,
-    row: u32,
-) -> u32
-    requires table { seat.old.table_id ≡ waits.now.table_id }
-    requires idle { seat.old.view.place ≡ [] }
-    requires row { IsReady (party_of seat.old.view) row × (row < (join waits.now.party).inner) }
-    ensures table { (seat.new.table_id ≡ seat.old.table_id) × (seat.new.id ≡ seat.old.id) }
-    ensures view { seat.new.view ≡ seat.old.view }
-    ensures hash { (join waits.now.party).hash row ≡ Some result }
-{
-    waits
-        .client(seat, HashStep::Load(Look::Plain(Word::Hash(row))))
-        .old as u32
-}
 
 // Inserts an inner row that was taken out of its store.
 fn load_row<'r, R: Wait>(

@@ -82,8 +82,8 @@ late_done p s u w m n before after new late same left = record {
   ended = inl ended;
 }
   where
-    client : w.wait.view.client ≡ record first_view { known = u.wait.view.client.known; late = true }
-    client = same ∙ (late.late ∙ ap (λ (y : WaitView HashView). record (y.client) { known = u.wait.view.client.known; late = true }) new.wait)
+    client : w.wait.view.client ≡ record first_view { late = true }
+    client = same ∙ (late.late ∙ ap (λ (y : WaitView HashView). record (y.client) { late = true }) new.wait)
 
     probed : w.wait.view.client.probed ≡ []
     probed = ap (λ (c : HashView). c.probed) client

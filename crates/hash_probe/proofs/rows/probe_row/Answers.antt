@@ -22,7 +22,7 @@ overflow_cast-hash g c =
 pub chain_of-head-requires-clause-known : goal.chain_of-head-requires-clause-known
 chain_of-head-requires-clause-known g c =
     let j = join c.args.waits.now.party in
-    subst (λ (y : WaitView HashView). KnowsSizes j (party_of y)) (sym c.client-hash.ensures.view) (knows_sizes j (party_of c.args.seat.now.view) c.args.row c.requires.row)
+    subst (λ (y : WaitView HashView). KnowsSizes (party_of y)) (sym c.client-hash.ensures.view) (knows_sizes j (party_of c.args.seat.now.view) c.args.row c.requires.row)
 
 pub walk-requires-clause-row : goal.walk-requires-clause-row
 walk-requires-clause-row g c =
