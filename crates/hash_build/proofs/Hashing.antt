@@ -36,10 +36,6 @@ knows_still j v w c sizes is same k = record {
   fit = k.fit;
 }
 
-pub hashes_still : (v w : WaitView HashView) (c : HashView) (side : Side) → w ≡ client_moved v c → HashesAt (party_of v) side → HashesAt (party_of w) side
-hashes_still v w c Inner is h = subst (λ (y : WaitView HashView). HashesAt (party_of y) Inner) (sym is) h
-hashes_still v w c Outer is h = subst (λ (y : WaitView HashView). HashesAt (party_of y) Outer) (sym is) h
-
 -- where a route leads
 pub leads_by : (j : Join) (v : View) (sizes : Sizes) (route : Route) (row x : ℕ) → KnowsThese j v sizes → j.hash row ≡ Some x → route.bucket ≡ routes.bucket_of sizes.buckets x → route.batch ≡ routes.batch_of sizes.buckets sizes.batches x
     → Routed j v row (λ z x. Leads z x route) × (route.batch < 64)
@@ -77,10 +73,6 @@ first_gone row n hand left less is then =
     let many : n - row ≡ suc (n - (row + 1)) = omega arith in
     let next : row + 1 ≡ suc row = omega arith in
     then ∙ (ap (without row) (is ∙ ap (stretch row) many) ∙ (ap (λ (b : Bool). cond b (stretch (suc row) (n - (row + 1))) (row ∷ without row (stretch (suc row) (n - (row + 1))))) (eq-eqb row row refl) ∙ ap (λ (a : ℕ). stretch a (n - (row + 1))) (sym next)))
-
--- and in hand it is
-pub first_there : (row n : ℕ) (hand : List ℕ) → row < n → hand ≡ stretch row (n - row) → 1 ≤ times row hand
-first_there row n hand less is = let t = times_stretch row row (n - row) in let e : times row hand ≡ times row (stretch row (n - row)) = ap (times row) is in omega arith
 
 -- what was read and seen leaves ends and claims as they are
 pub known_ends : (c : HashView) (k : Option Known) → ((side : Side) → MayStillEnd c side) → (side : Side) → MayStillEnd (with_known c k) side

@@ -1,16 +1,14 @@
 -- How a worker goes from phase to phase of a growth.
-use Rattle.std.proofs.Common.{◌≡◌, ◌⊎◌, ℕ, zero, suc, ◌+◌, ◌-◌, ◌%◌, ◌<◌, ◌≤◌, Bool, true, false, cond, ◌&&◌, ◌||◌, List, [], ◌∷◌, refl, sym, ap, ◌∙◌, subst, arith, inl, inr, ⊎_elim, eqb, eq-eqb, Some, None, Option}
+use Rattle.std.proofs.Common.{◌≡◌, ◌⊎◌, ℕ, zero, suc, ◌+◌, ◌%◌, ◌<◌, ◌≤◌, Bool, true, false, ◌&&◌, ◌||◌, List, [], ◌∷◌, refl, sym, ap, ◌∙◌, subst, arith, inl, inr, ⊎_elim, eqb, eq-eqb, Some, None}
 use Rattle.std.proofs.lemmas.Option.{same_Some}
-use Rattle.row_model.specs.declared.Side.{Side}
 use Rattle.wait_core.specs.declared.view.WaitView.{WaitView}
 use Rattle.wait_core.specs.Jobs.{at_phase, away_from}
 use Rattle.wait_core.specs.Parties.{phase_of, Elected}
-use Rattle.wait_core.specs.Seating.{client_moved, party_of}
+use Rattle.wait_core.specs.Seating.{party_of}
 use Rattle.phase_barrier.specs.Calls.{Arrived}
 use Rattle.join_law.specs.declared.view.HashView.{HashView}
 use Rattle.join_law.specs.Layout.{Join}
-use Rattle.join_law.specs.Machine.{At}
-use Rattle.join_law.specs.Phases.{growth_phase, growth_place, moves_rows, FREE, HASH_INNER, REINSERT}
+use Rattle.join_law.specs.Phases.{growth_phase, moves_rows, FREE, HASH_INNER, REINSERT}
 use Rattle.join_law.specs.Quiet.{Passes, Quiet, QuietAtBuild, QuietAtGrowth, Stays}
 use Rattle.join_law.specs.Views.{View}
 use Rattle.join_party.specs.declared.tables.JoinSeats.{JoinSeats}
@@ -21,7 +19,7 @@ use Rattle.shared_tuples.specs.declared.sizes.Growth.TheVariants.{Batches, Bucke
 use Rattle.shared_tuples.specs.Growing.{bar_of}
 use Rattle.shared_tuples.specs.Tuples.{Hashing}
 use Rattle.hash_build.specs.declared.growths.GrowthPhases.{GrowthPhases}
-use Rattle.hash_build.specs.Growths.{AreAt, AreElecting, Grows, IsElecting, IsGrowing, IsMoving, MayMove, last_of, other_than, passed, phase_at}
+use Rattle.hash_build.specs.Growths.{AreAt, AreElecting, Grows, IsElecting, IsGrowing, IsMoving, MayMove, last_of, passed, phase_at}
 use Rattle.hash_build.specs.Hashing.{IsFree, ReadsSizes}
 use Rattle.hash_build.proofs.Hashing.{claims_none, hashes_on}
 

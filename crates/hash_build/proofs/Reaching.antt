@@ -1,5 +1,5 @@
 -- How far a worker comes that hashes inner rows: by one chunk, and by a growth after it.
-use Rattle.std.proofs.Common.{◌≡◌, ℕ, ◌+◌, ◌≤◌, [], refl, sym, ap, ◌∙◌, subst, arith}
+use Rattle.std.proofs.Common.{◌≡◌, ℕ, ◌+◌, [], refl, sym, ap, ◌∙◌, subst, arith}
 use Rattle.row_model.specs.declared.Side.TheVariants.{Inner}
 use Rattle.lw_core.specs.declared.seat.LwSeat.{LwSeat}
 use Rattle.wait_core.specs.declared.view.WaitView.{WaitView}

@@ -1,6 +1,6 @@
 -- How new sizes are stored.
 use mathlib.Core.Option as maybe
-use Rattle.std.proofs.Common.{List, ◌∷◌, Option, ◌≡◌, ℕ, zero, suc, ◌+◌, ◌-◌, ◌*◌, ◌/◌, ◌^◌, ◌<◌, ◌≤◌, Bool, cond, refl, sym, ap, ◌∙◌, subst, arith, eqb, not, ◌&&◌, Some, None, ⊎_elim, true, false}
+use Rattle.std.proofs.Common.{List, ◌∷◌, Option, ◌≡◌, ℕ, zero, suc, ◌-◌, ◌*◌, ◌^◌, ◌≤◌, Bool, cond, refl, sym, ap, ◌∙◌, subst, arith, eqb, not, ◌&&◌, ⊎_elim, true, false}
 use Rattle.std.proofs.lemmas.Bool.{cases_Bool, eqb-true, true≢false}
 use Rattle.std.proofs.Math.Nat.{two-pow-succ}
 use Rattle.std.specs.Int.{IsPowerOfTwo}
@@ -10,7 +10,7 @@ use Rattle.wait_core.specs.Seating.{client_moved, party_of}
 use Rattle.join_law.specs.declared.view.HashView.{HashView}
 use Rattle.join_law.specs.Layout.{Join, SizesOf, sizes_of}
 use Rattle.join_law.specs.declared.step.HashStep.TheVariants.{StoreSizes}
-use Rattle.join_law.specs.Machine.{Grown, MayStoreSizes, after, stored_more}
+use Rattle.join_law.specs.Machine.{MayStoreSizes, after, stored_more}
 use Rattle.join_party.specs.declared.tables.JoinSeats.{JoinSeats}
 use Rattle.join_party.specs.declared.tables.JoinTables.{JoinTables}
 use Rattle.join_party.specs.Workers.{IsAt}

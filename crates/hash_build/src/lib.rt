@@ -17,6 +17,7 @@ mod report;
 mod resize;
 mod rows;
 mod sizes;
+mod starts;
 #[cfg(test)]
 mod tests;
 mod wanted;
@@ -26,6 +27,7 @@ use phase_barrier::attach;
 use phases::{FREE, RUN, go_on, leave_late, the_build, work};
 use proc_table::{Gate, Point, Steps};
 use sizes::read_sizes;
+pub use starts::draw_start;
 use std::sync::Wait;
 use std::sync::ledger::Ledger;
 

@@ -1,7 +1,7 @@
 //! How rows move while a growth is under way: all are taken out of the half that it leaves, head by head, and
 //! go where the new sizes lead them (PostgreSQL's `ExecParallelHashRepartitionFirst`,
 //! `ExecParallelHashRepartitionRest` and the reinsertion of `ExecParallelHashIncreaseNumBuckets`).
-ghost use Rattle.std.specs.Prelude.{◌≡◌, ◌<◌, ◌+◌, []};
+ghost use Rattle.std.specs.Prelude.{◌≡◌, ◌<◌, ◌+◌, ℕ, []};
 ghost use Rattle.wait_core.specs.Seating.{client_moved, party_of};
 ghost use Rattle.join_law.specs.Quiet.{AllSwept};
 ghost use Rattle.join_law.specs.Views.{dropped};
@@ -15,6 +15,7 @@ use crate::batches::{Counts, add_batch_sizes, count_row};
 use crate::growths::GrowthPhases;
 use crate::rows::place_hashed;
 use crate::sizes::read_sizes;
+use crate::starts::draw_start;
 use join_party::{JoinSeats, JoinTables};
 use row_model::Side;
 use shared_tuples::{Growth, Sizes, hash_word, take_old};
@@ -57,11 +58,10 @@ fn empty_head<'r, R: Wait>(
     requires turn { MayTakeOld (join tables.now.waits.party) (party_of seats.old.wait.view) growth turn }
     requires known { KnowsThese (join tables.now.waits.party) (party_of seats.old.wait.view) sizes }
     requires hand { seats.old.wait.view.client.hand ≡ [] }
-    requires swept { SweptTo growth turn (party_of seats.old.wait.view) }
     ensures table { (seats.new.wait.table_id ≡ seats.old.wait.table_id) × (seats.new.wait.id ≡ seats.old.wait.id) }
     ensures others { (seats.new.lock ≡ seats.old.lock) × (seats.new.signal ≡ seats.old.signal) }
     ensures moves { MovesRows seats.old.wait.view seats.new.wait.view }
-    ensures swept { SweptTo growth (turn + 1) (party_of seats.new.wait.view) }
+    ensures swept { SweptTo growth turn (party_of seats.old.wait.view) → SweptTo growth (turn + 1) (party_of seats.new.wait.view) }
 {
     for _ in rt.forever() {
         let Some(row) = take_old(rt, tables, seats, growth, turn) else {
@@ -73,8 +73,35 @@ fn empty_head<'r, R: Wait>(
     unreachable!()
 }
 
+// Moves the rows of the heads of the old half from the first of these on.
+fn empty_heads<'r, R: Wait>(
+    rt: &R,
+    tables: &JoinTables<'r>,
+    seats: &mut JoinSeats<'r>,
+    growth: Growth,
+    sizes: Sizes,
+    first: u32,
+    heads: u32,
+    counts: &mut Counts,
+)
+    requires table { seats.old.wait.table_id ≡ tables.now.waits.table_id }
+    requires idle { seats.old.wait.view.place ≡ [] }
+    requires turns { (turn : ℕ) → turn < heads → MayTakeOld (join tables.now.waits.party) (party_of seats.old.wait.view) growth turn }
+    requires known { KnowsThese (join tables.now.waits.party) (party_of seats.old.wait.view) sizes }
+    requires hand { seats.old.wait.view.client.hand ≡ [] }
+    requires attached { SweptTo growth 0 (party_of seats.old.wait.view) }
+    ensures table { (seats.new.wait.table_id ≡ seats.old.wait.table_id) × (seats.new.wait.id ≡ seats.old.wait.id) }
+    ensures others { (seats.new.lock ≡ seats.old.lock) × (seats.new.signal ≡ seats.old.signal) }
+    ensures moves { MovesRows seats.old.wait.view seats.new.wait.view }
+    ensures swept { first ≡ 0 → SweptTo growth heads (party_of seats.new.wait.view) }
+{
+    for turn in first..heads {
+        empty_head(rt, tables, seats, growth, sizes, turn, counts);
+    }
+}
+
 // Moves all rows out of the old half, together with whoever else takes part, and adds to the sizes of the new
-// batches.
+// batches. Workers who come together begin at heads that are far from one another, and then go through all.
 pub(crate) fn move_rows<'r, R: Wait>(
     rt: &R,
     tables: &JoinTables<'r>,
@@ -90,9 +117,11 @@ pub(crate) fn move_rows<'r, R: Wait>(
 {
     let sizes = read_sizes(tables, seats);
     let old = sizes.before(growth, tables.waits.party().first_batches);
+    let heads = old.buckets + old.batches - 1;
+    let workers = tables.plan.workers;
+    let first = draw_start(tables, seats, workers) * heads / workers;
     let mut counts = [0u32; 64];
-    for turn in 0..old.buckets + old.batches - 1 {
-        empty_head(rt, tables, seats, growth, sizes, turn, &mut counts);
-    }
+    empty_heads(rt, tables, seats, growth, sizes, first, heads, &mut counts);
+    empty_heads(rt, tables, seats, growth, sizes, 0, heads, &mut counts);
     add_batch_sizes(tables, seats, sizes, &counts);
 }

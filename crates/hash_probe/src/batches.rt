@@ -241,22 +241,6 @@ pub(crate) fn probe_batches<'r, G: Gate, R: Wait, L: Ledger>(
     }
 }
 
-// Draws the batch from which it goes round.
-pub(crate) fn draw_start<'r>(
-    tables: &JoinTables<'r>,
-    seats: &mut JoinSeats<'r>,
-    batches: u32,
-) -> u32
-    requires table { seats.old.wait.table_id ≡ tables.now.waits.table_id }
-    requires idle { seats.old.wait.view.place ≡ [] }
-    requires some { 0 < batches }
-    ensures start { result < batches }
-    ensures same { (seats.new.wait.table_id ≡ seats.old.wait.table_id) × (seats.new.wait.id ≡ seats.old.wait.id) × (seats.new.wait.view ≡ seats.old.wait.view) × (seats.new.lock ≡ seats.old.lock) × (seats.new.signal ≡ seats.old.signal) }
-{
-    let drawn = tables.waits.client(&mut seats.wait, HashStep::Draw).old;
-    (drawn % u64::from(batches)) as u32
-}
-
 // Leaves the build, which the last one makes FREE, and the slot of signals.
 pub(crate) fn leave<'r, R: Wait>(rt: &R, tables: &JoinTables<'r>, seats: &mut JoinSeats<'r>)
     requires awake { IsAwake tables.now seats.old }

@@ -20,8 +20,8 @@ mod stores;
 mod tests;
 mod walks;
 
-use batches::{draw_start, leave, probe_batches};
-use hash_build::Built;
+use batches::{leave, probe_batches};
+use hash_build::{Built, draw_start};
 use join_party::{JoinSeats, JoinTables};
 use proc_table::{Gate, Point, Steps};
 use row_model::Pair;
@@ -89,6 +89,7 @@ pub fn probe<'r, G: Gate, R: Wait, L: Ledger>(
     probe_batches(
         rt, tables, seats, table, 0, first, worker, pairs, &mut marks, gate, steps,
     );
+    // The batch from which it goes round.
     let start = draw_start(tables, seats, batches);
     let from = u32::max(first, start);
     probe_batches(

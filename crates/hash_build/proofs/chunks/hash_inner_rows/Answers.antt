@@ -1,6 +1,5 @@
-use Rattle.std.proofs.Common.{◌≡◌, ◌∙◌, sym, ap, subst}
+use Rattle.std.proofs.Common.{◌∙◌, sym, ap, subst}
 use Rattle.wait_core.specs.declared.view.WaitView.{WaitView}
-use Rattle.wait_core.specs.Seating.{party_of}
 use Rattle.join_law.specs.declared.view.HashView.{HashView}
 use Rattle.join_party.specs.Joins.{join}
 use Rattle.hash_build.specs.Growths.{AreAt}

@@ -1,8 +1,7 @@
-use Rattle.std.proofs.Common.{◌≡◌, ℕ, ◌≤◌, List, sym, ap, subst, arith}
+use Rattle.std.proofs.Common.{ℕ, ap, subst, arith}
 use Rattle.wait_core.specs.Parties.{Elected}
 use Rattle.join_law.specs.declared.view.HashView.{HashView}
 use Rattle.shared_tuples.specs.Growing.{bar_of}
-use Rattle.hash_build.specs.declared.growths.GrowthPhases.{GrowthPhases}
 use Rattle.hash_build.specs.Growths.{phase_at}
 use Rattle.hash_build.proofs.Passing.{passed_by_one}
 use Rattle.hash_build.proofs.growths.begin.Goals as goal

@@ -1,4 +1,4 @@
-use Rattle.std.proofs.Common.{◌≡◌, ℕ, ◌-◌, ◌%◌}
+use Rattle.std.proofs.Common.{◌≡◌, ◌-◌, ◌%◌}
 use Rattle.join_law.specs.Phases.{growth_phase}
 use Rattle.shared_tuples.specs.Growing.{bar_of}
 use Rattle.hash_build.specs.Growths.{Grows, IsGrowing, SameOther, phase_at}

@@ -1,8 +1,5 @@
-use Rattle.std.proofs.Common.{◌∙◌}
-use Rattle.wait_core.specs.Seating.{party_of}
 use Rattle.join_party.specs.Joins.{join}
-use Rattle.hash_build.proofs.Hashing.{knows_still}
-use Rattle.hash_build.proofs.Moving.{may_take_still, moves_end, moves_none, moves_row, swept_end, swept_row}
+use Rattle.hash_build.proofs.Moving.{may_take_still}
 use Rattle.hash_build.proofs.moves.empty_head.Goals as goal
 
 pub take_old-requires-clause-turn : goal.take_old-requires-clause-turn

@@ -1,11 +1,10 @@
-use Rattle.std.proofs.Common.{◌≡◌, ℕ, refl, sym, ap, ◌∙◌, subst, arith}
+use Rattle.std.proofs.Common.{◌≡◌, ℕ, refl, sym, ◌∙◌, subst, arith}
 use Rattle.wait_core.specs.declared.view.WaitView.{WaitView}
 use Rattle.wait_core.specs.Seating.{client_moved, party_of}
 use Rattle.join_law.specs.declared.view.HashView.{HashView}
 use Rattle.join_law.specs.declared.step.HashStep.TheVariants.{StoreSizes}
 use Rattle.join_law.specs.Machine.{May, after}
 use Rattle.join_party.specs.Joins.{join}
-use Rattle.shared_tuples.specs.Growing.{bar_of}
 use Rattle.hash_build.proofs.Hashing.{still_ends}
 use Rattle.hash_build.proofs.Resizing.{growing_resized, may_store}
 use Rattle.hash_build.proofs.resize.store_sizes.Goals as goal

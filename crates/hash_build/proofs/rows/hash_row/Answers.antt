@@ -1,5 +1,5 @@
 use Rattle.std.proofs.Common.{refl}
-use Rattle.hash_build.proofs.Hashing.{hashes_still, knows_still, still_ends}
+use Rattle.hash_build.proofs.Hashing.{still_ends}
 use Rattle.hash_build.proofs.rows.hash_row.Goals as goal
 
 pub invariant_of-seats : goal.invariant_of-seats

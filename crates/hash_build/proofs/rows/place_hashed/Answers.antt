@@ -1,4 +1,3 @@
-use Rattle.std.proofs.Common.{sym}
 use Rattle.wait_core.specs.Seating.{party_of}
 use Rattle.join_party.specs.Joins.{join}
 use Rattle.hash_build.proofs.Hashing.{leads_by}

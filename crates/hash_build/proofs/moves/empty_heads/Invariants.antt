@@ -1,0 +1,8 @@
+use Rattle.std.proofs.Common.{◌≡◌}
+use Rattle.wait_core.specs.Seating.{party_of}
+use Rattle.hash_build.specs.Growths.{MovesRows, SweptTo}
+use Rattle.hash_build.proofs.moves.empty_heads.Given as goal
+
+abbrev pub invariant-loop-turn : goal.invariant-loop-turn
+invariant-loop-turn g l = (l.seats.wait.table_id ≡ l.fn.seats.wait.table_id) × (l.seats.wait.id ≡ l.fn.seats.wait.id) × (l.seats.lock ≡ l.fn.seats.lock) × (l.seats.signal ≡ l.fn.seats.signal)
+    × MovesRows l.fn.seats.wait.view l.seats.wait.view × (l.first ≡ 0 → SweptTo l.growth l.turn (party_of l.seats.wait.view))
