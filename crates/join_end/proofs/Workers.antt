@@ -1,5 +1,6 @@
 -- What a worker promises at its end, by what `build` and `probe` say.
-use Rattle.std.proofs.Common.{◌≡◌, ℕ, ◌+◌, ◌-◌, ◌*◌, ◌≤◌, Bool, true, false, ◌||◌, List, [], ◌∷◌, ◌++◌, length, refl, sym, ap, ◌∙◌, subst, arith, inl, inr, Some, None}
+use Rattle.std.proofs.Common.{◌≡◌, ℕ, ◌+◌, ◌-◌, ◌*◌, ◌≤◌, Bool, true, false, ◌||◌, List, [], ◌∷◌, ◌++◌, length, refl, sym, ap, ◌∙◌, subst, arith, inl, inr, Option, Some, None}
+use Rattle.std.specs.List.Sorted.{IsPermutation}
 use Rattle.std.proofs.lemmas.List.{append-nil, length-append}
 use Rattle.std.proofs.lemmas.Option.{none-some, same_Some}
 use Rattle.seat_roster.specs.Roster.{listed, times}
@@ -42,6 +43,7 @@ use Rattle.hash_probe.specs.Hits.{hits}
 use Rattle.join_end.specs.Pairs.{SamePairs}
 use Rattle.join_end.specs.Works.{Did, HasDone, IsOver, work_of}
 use Rattle.join_end.specs.Workers.{IsNew, KeepsNumbers}
+use Rattle.join_end.proofs.EachPair.{hits_moved}
 use Rattle.join_end.proofs.Gathers.{quiet_ended}
 use Rattle.hash_probe.proofs.Stops.{stops_absorb}
 
@@ -169,6 +171,13 @@ module _ (t : JoinTables) (s u w : JoinSeats) (m n buckets batches : ℕ) (elect
         wait = (f.numbers.own ∙ (numbers.own ∙ ap (λ (y : WaitView HashView). y.own) new.wait), f.numbers.taken ∙ (numbers.taken ∙ ap (λ (y : WaitView HashView). y.taken) new.wait));
         signal = (f.says.on.own ∙ (ap (λ (y : SigSeat). y.view.own) b.reached.signal ∙ new.own), f.says.on.taken ∙ (ap (λ (y : SigSeat). y.view.taken) b.reached.signal ∙ new.taken));
       }
+
+-- and its pairs were sorted
+pub sorted_done : (p : HashParty) (s : JoinSeats) (given sorted : List Pair) (over : Option ℕ) (short : Bool) (looks : ℕ) → IsPermutation given sorted → HasDone p (work_of s given over short looks) → HasDone p (work_of s sorted over short looks)
+sorted_done p s given sorted over short looks moved done = record {
+  did = record { pairs = λ o i. hits_moved given sorted moved o i ∙ done.did.pairs o i; over = done.did.over; emits = done.did.emits; gives = done.did.gives; looks = done.did.looks; begun = done.did.begun };
+  ended = done.ended;
+}
 
 -- ONE NUMBER MORE IS TAKEN with a worker that took in nobody
 pub wait_taken : (v w : WaitView HashView) (number : ℕ) → w.own ≡ Some number → w.taken ≡ [] → length (waits.took_in both_views v w).taken ≡ length v.taken + 1

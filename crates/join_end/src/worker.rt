@@ -13,6 +13,7 @@ ghost use Rattle.hash_build.specs.Hashing.{HoldsNoMore, SameWaitNumbers};
 ghost use Rattle.join_end.specs.Workers.{HasGone, IsNew, KeepsNumbers};
 ghost use Rattle.join_end.specs.Works.{HasDone, work_of};
 
+use crate::order::sort;
 use generation_barrier::leave_slot;
 use hash_build::{Built, build};
 use hash_probe::probe;
@@ -32,7 +33,8 @@ pub struct Said {
 }
 
 /// A new worker takes part in a join from whatever phase it finds, until nothing is left to do for it,
-/// and leaves it. Its pairs are in `pairs`.
+/// and leaves it. Its pairs are in `pairs`, sorted, so that all workers sort at once and the pairs of all are so
+/// many runs.
 pub fn work<'r, G: Gate, R: Wait, L: Ledger>(
     rt: &R,
     tables: &JoinTables<'r>,
@@ -66,6 +68,7 @@ pub fn work<'r, G: Gate, R: Wait, L: Ledger>(
         }
         Built::Ready { .. } => {
             let said = probe(rt, tables, seats, built, worker, pairs, gate, steps);
+            sort(pairs);
             Said {
                 over: said.over,
                 short: said.out_of_memory,

@@ -3,5 +3,8 @@ use Rattle.std.proofs.lemmas.List.Sorted.{IsNonDecreasingBy-from_sort_by_key}
 use Rattle.join_end.specs.Pairs.{code}
 use Rattle.join_end.proofs.order.sort.Goals as goal
 
-pub returns-clause-sorted : goal.returns-clause-sorted
-returns-clause-sorted c = IsNonDecreasingBy-from_sort_by_key code _ c.sort_unstable_by_key.ensures.sorted (λ a r q k. search rules)
+pub returns-in-Ok-clause-sorted : goal.returns-in-Ok-clause-sorted
+returns-in-Ok-clause-sorted c = IsNonDecreasingBy-from_sort_by_key code _ c.in-Ok.ensures.sorted (λ a r q k. search rules)
+
+pub returns-in-Err-clause-sorted : goal.returns-in-Err-clause-sorted
+returns-in-Err-clause-sorted c = IsNonDecreasingBy-from_sort_by_key code _ c.sort_unstable_by_key.ensures.sorted (λ a r q k. search rules)

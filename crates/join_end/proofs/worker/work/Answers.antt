@@ -2,7 +2,7 @@ use Rattle.std.proofs.Common.{◌-◌, [], false, List, None, subst, sym}
 use Rattle.row_model.specs.declared.Pair.{Pair}
 use Rattle.hash_probe.specs.Probes.{Probes}
 use Rattle.join_end.specs.Works.{HasDone, work_of}
-use Rattle.join_end.proofs.Workers.{built_done, built_numbers, late_done, late_numbers}
+use Rattle.join_end.proofs.Workers.{built_done, built_numbers, late_done, late_numbers, sorted_done}
 use Rattle.join_end.proofs.worker.work.Goals as goal
 
 pub returns-in-Ready-clause-done : goal.returns-in-Ready-clause-done
@@ -14,7 +14,8 @@ returns-in-Ready-clause-done g c =
     let new = c.requires.new in
     let begun = c.enter.ensures.new new.0 new.1 new.2 in
     let f : Probes t u probed.new.seats probed.result [] probed.new.pairs.items c.build-built.new.steps probed.new.steps = subst (λ (l : List Pair). Probes t u probed.new.seats probed.result l probed.new.pairs.items c.build-built.new.steps probed.new.steps) c.requires.pairs probed.ensures.probed in
-    built_done t s u probed.new.seats new.0 new.1 c.in-Ready.buckets c.in-Ready.batches c.in-Ready.elected probed.result probed.new.pairs.items c.args.steps.now c.build-built.new.steps probed.new.steps begun c.in-Ready.ensures.built f probed.ensures.left.0 probed.ensures.quiet
+    sorted_done t.waits.party probed.new.seats probed.new.pairs.items c.sort.new.pairs.items probed.result.over probed.result.out_of_memory (probed.new.steps - c.args.steps.now) c.sort.ensures.same
+    (built_done t s u probed.new.seats new.0 new.1 c.in-Ready.buckets c.in-Ready.batches c.in-Ready.elected probed.result probed.new.pairs.items c.args.steps.now c.build-built.new.steps probed.new.steps begun c.in-Ready.ensures.built f probed.ensures.left.0 probed.ensures.quiet)
 
 pub returns-in-Ready-clause-numbers : goal.returns-in-Ready-clause-numbers
 returns-in-Ready-clause-numbers g c m n new =
