@@ -1,5 +1,5 @@
--- One row is probed or given up.
-use Rattle.std.proofs.Common.{◌≡◌, ℕ, suc, ◌+◌, ◌≤◌, Bool, cond, eq-eqb, List, [], ◌∷◌, ◌++◌, length, refl, sym, ap, ◌∙◌, subst, arith, inl, inr, None, true}
+-- Rows are probed or given up.
+use Rattle.std.proofs.Common.{◌≡◌, ℕ, suc, ◌+◌, ◌≤◌, List, [], ◌∷◌, ◌++◌, length, refl, sym, ap, ◌∙◌, subst, arith, inl, inr, None, true}
 use Rattle.std.proofs.lemmas.Bool.{true≢false}
 use Rattle.std.proofs.lemmas.List.{append-nil, length-append, length-map}
 use Rattle.row_model.specs.declared.Pair.{Pair}
@@ -13,7 +13,7 @@ use Rattle.join_law.specs.declared.view.HashView.{HashView}
 use Rattle.join_law.specs.declared.view.Probed as row
 use Rattle.join_law.specs.Stands.{meeting}
 use Rattle.join_law.specs.Layout.{Join}
-use Rattle.join_law.specs.Views.{pairs_in, without}
+use Rattle.join_law.specs.Views.{pairs_in}
 use Rattle.join_party.specs.declared.party.HashParty.{HashParty}
 use Rattle.join_party.specs.declared.tables.JoinSeats.{JoinSeats}
 use Rattle.join_party.specs.declared.tables.JoinTables.{JoinTables}
@@ -29,7 +29,7 @@ use Rattle.hash_probe.specs.Working.{HandlesRow, StaysAttached, Worked}
 use Rattle.hash_probe.proofs.RowsDone.{does_none, does_on, moved_only, stays_none}
 use Rattle.hash_probe.proofs.Saying.{says_on}
 use Rattle.hash_probe.proofs.Signals.{stays_on, swaps_on, tells_on}
-use Rattle.hash_probe.proofs.Working.{numbers_on}
+use Rattle.hash_probe.proofs.Working.{numbers_on, worked_none, worked_on}
 
 -- the seat is attached as before
 pub stays_moved : (v w : WaitView HashView) (c : HashView) → w ≡ client_moved v c → StaysAttached v w
@@ -121,6 +121,7 @@ module _ (t : JoinTables) where
         one = omega arith;
         does = subst (λ (y : WaitView HashView). DoesRows p (d.probed ∷ []) [] v.wait.view.client y.client before after k l) (sym is) (does_probed p t.signals.procs v.wait.view u r count before after k l d few);
         says = says_counted p t.signals.procs m n d.probed count added v.signal.view w.signal.view none all (omega arith) counts;
+        drained = ap (λ (y : WaitView HashView). y.client.drained) (is ∙ d.view);
         stays = stays_moved v.wait.view w.wait.view _ (is ∙ d.view);
         lock = lock;
       }
@@ -136,6 +137,7 @@ module _ (t : JoinTables) where
         one = omega arith;
         does = subst (λ (a : List Pair). DoesRows p [] (r ∷ []) v.wait.view.client w.wait.view.client before a k l) (sym same) (does_given p t.signals.procs v.wait.view w.wait.view r before k l is few);
         says = subst (λ (y : SigView). Says p t.signals.procs [] (r ∷ []) m n v.signal.view y) sig (says_given p t.signals.procs m n r v.signal.view count over stopped marked);
+        drained = ap (λ (y : WaitView HashView). y.client.drained) is;
         stays = stays_moved v.wait.view w.wait.view _ is;
         lock = lock;
       }
@@ -162,10 +164,13 @@ module _ (t : JoinTables) where
         },
       )
 
+  -- rows were taken, and then handled
+  pub worked_some : (s u v w : JoinSeats) (k m n : Probed) (a b c : List Pair) (x y z : ℕ) → Worked t s u k m a b x y → v.wait.view ≡ client_moved u.wait.view v.wait.view.client → ProbesNone u.wait.view.client v.wait.view.client → v.lock ≡ u.lock → v.signal ≡ u.signal
+      → Worked t v w m n b c y z → Worked t s w k n a c x z
+  worked_some s u v w k m n a b c x y z before view none lock signal handled =
+      let taken = worked_none t u v m b y none (stays_moved u.wait.view v.wait.view v.wait.view.client view).numbers lock signal in
+      worked_on t s v w k m n a b c x y z (worked_on t s u v k m m a b b x y y before taken) handled
+
 -- a worker at whose row memory ran out has a mark
 pub unmarked_not : (m : Probed) → IsUnmarked (record m { out_of_memory = true }) → ⊥
 unmarked_not m none = true≢false none.2
-
--- a row that came to an empty hand leaves it
-pub only_one : (r : ℕ) (hand : List ℕ) → hand ≡ [] → without r (r ∷ hand) ≡ []
-only_one r hand none = ap (λ (b : Bool). cond b hand (r ∷ without r hand)) (eq-eqb r r refl) ∙ none

@@ -12,3 +12,4 @@ pub mod Working
 pub mod Attached
 pub mod Loading
 pub mod Handling
+pub mod Holding

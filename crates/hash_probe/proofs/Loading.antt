@@ -1,35 +1,21 @@
 -- How an inner row that is taken out of its store is inserted.
-use Rattle.std.proofs.Common.{◌≡◌, ℕ, ◌^◌, ◌<◌, ◌≤◌, List, length, get_or, sym, ap, ◌∙◌, subst, inr, Some}
+use Rattle.std.proofs.Common.{◌≡◌, ℕ, ◌≤◌, sym, ap, ◌∙◌, subst, inr, Some}
 use Rattle.std.specs.Int.{IsPowerOfTwo}
 use Rattle.std.proofs.lemmas.Option.{same_Some}
 use Rattle.row_model.specs.declared.Route.{Route}
 use Rattle.row_model.specs.Routes as routes
-use Rattle.row_model.specs.Table.{key_of}
-use Rattle.wait_core.specs.declared.view.WaitView.{WaitView}
-use Rattle.wait_core.specs.Ops.{op_at}
-use Rattle.wait_core.specs.Parties.{IsStep, phase_of}
-use Rattle.wait_core.specs.Seating.{party_of}
-use Rattle.join_law.specs.declared.view.HashView.{HashView}
-use Rattle.join_law.specs.declared.step.HashStep.TheVariants.{Load}
-use Rattle.join_law.specs.declared.step.Look.TheVariants.{Plain}
-use Rattle.join_law.specs.declared.step.Word.TheVariants.{Hash}
+use Rattle.wait_core.specs.Parties.{phase_of}
 use Rattle.join_law.specs.Layout.{Join, SizesOf, sizes_of}
-use Rattle.join_law.specs.Machine.{At, step_op}
+use Rattle.join_law.specs.Machine.{At}
 use Rattle.join_law.specs.Phases.{known_at, known_word, batch_bar, LOAD}
 use Rattle.join_law.specs.Routes.{batch_of}
-use Rattle.join_law.specs.Stands.{Stands}
 use Rattle.join_law.specs.Views.{View}
 use Rattle.join_law.proofs.Callers.{with_there}
-use Rattle.join_law.proofs.Learned.{hand_row, hash_found}
-use Rattle.join_party.specs.declared.party.HashParty.{HashParty}
-use Rattle.join_party.specs.Joins.{join}
-use Rattle.shared_tuples.specs.Tuples.{IsReady, MayInsert}
+use Rattle.shared_tuples.specs.Tuples.{MayInsert}
 use Rattle.shared_tuples.proofs.Tuples.{routed}
 use Rattle.hash_probe.specs.declared.HashTable.{HashTable}
 use Rattle.hash_probe.specs.Loads.{MayLoad}
 use Rattle.hash_probe.specs.Working.{KnowsTable}
-use Rattle.hash_probe.proofs.Comparing.{inner_hash}
-use Rattle.shared_tuples.proofs.Hashes.{hash_few}
 
 -- what the seat knows of the table is what it knows for good
 known_table : (j : Join) (v : View) (table : HashTable) → (k : KnowsTable j v.client.known table) → known_word v ≡ Some k.word

@@ -10,7 +10,6 @@ use Rattle.row_model.specs.declared.Side.{Side}
 use Rattle.row_model.specs.declared.Side.TheVariants.{Inner, Outer}
 use Rattle.row_model.specs.Table.{key_of, nested_loop}
 use Rattle.row_model.specs.Hash.{hash_of_key}
-use Rattle.shared_tuples.proofs.Hashes.{hash_few}
 use Rattle.seat_roster.specs.Roster.{times}
 use Rattle.seat_roster.proofs.Totals.{total_at}
 use Rattle.wait_core.specs.declared.view.WaitView.{WaitView}
@@ -20,9 +19,7 @@ use Rattle.wait_core.specs.Seating.{client_moved, party_of}
 use Rattle.join_law.specs.declared.view.HashView.{HashView}
 use Rattle.join_law.specs.declared.view.Probed.{Probed}
 use Rattle.join_law.specs.declared.view.Walk.{Walk}
-use Rattle.join_law.specs.declared.step.HashStep.TheVariants.{Load, AddResults}
-use Rattle.join_law.specs.declared.step.Look.TheVariants.{Plain}
-use Rattle.join_law.specs.declared.step.Word.TheVariants.{Hash}
+use Rattle.join_law.specs.declared.step.HashStep.TheVariants.{AddResults}
 use Rattle.join_law.specs.Layout.{Join, heads, rows, sizes_of}
 use Rattle.join_law.specs.Machine.{At, InHand, May, Probing, after, passed_of, step_op}
 use Rattle.join_law.specs.Phases.{WithSizes, known_word, batch_bar, RUN, PROBE}
@@ -31,7 +28,7 @@ use Rattle.join_law.specs.Stands.{Stands}
 use Rattle.join_law.specs.Views.{View, below, held, partners, pairs_in, probed_rows}
 use Rattle.join_law.proofs.Rows.{one, one_same, one_other}
 use Rattle.join_law.proofs.Callers.{with_there}
-use Rattle.join_law.proofs.Learned.{hash_found, results_found, walk_rows, named_row}
+use Rattle.join_law.proofs.Learned.{results_found, walk_rows, named_row}
 use Rattle.join_party.specs.Claims.{MayStillEnd}
 use Rattle.join_party.specs.declared.party.HashParty.{HashParty}
 use Rattle.join_party.specs.Joins.{join}
@@ -53,12 +50,8 @@ keyed_there p row x past key =
     absurd (none-some x (sym (ap hash_of_key none) ∙ (sym (outer_hash p row past) ∙ key))))
     (λ near. omega arith)
 
-pub row_there : (p : HashParty) (v : View) (row : ℕ) → MayProbe (join p) v row → row < rows (join p)
-row_there p v row may = let r = routed (join p) v row (λ z x. At v (batch_bar (batch_of z x)) PROBE) may.probing in keyed_there p row r.0 may.outer r.2
-
--- its hash has 32 bits
-pub key_few : (p : HashParty) (row hash : ℕ) → IsKeyed (join p) row hash → hash < 2 ^ 32
-key_few p row hash k = hash_few (key_of p.outer.now (row - length p.inner.now.rows)) hash (sym (outer_hash p row k.outer) ∙ k.key)
+pub row_keyed : (p : HashParty) (v : View) (row hash : ℕ) → MayProbe (join p) v row → (join p).hash row ≡ Some hash → IsKeyed (join p) row hash
+row_keyed p v row hash may key = record { outer = may.outer; there = keyed_there p row hash may.outer key; key = key }
 
 pub knows_sizes : (j : Join) (v : View) (row : ℕ) → MayProbe j v row → KnowsSizes v
 knows_sizes j v row may = let r = routed j v row (λ z x. At v (batch_bar (batch_of z x)) PROBE) may.probing in (with_there (known_word v) _ r.1 r.3 tt, inr (RUN, may.running, omega arith))
@@ -70,13 +63,13 @@ may_walk j v row hash head may key inside at =
     let same : hash ≡ r.0 = same_Some hash r.0 (sym key ∙ r.2) in
     let one : a.0 ≡ r.1 = same_Some a.0 r.1 (sym a.1 ∙ r.3) in
     let is : head ≡ chain_at j (sizes_of r.1) r.0 = a.2 ∙ ap {A = ℕ × ℕ} (λ n. chain_at j (sizes_of n.0) n.1) (λ i. (one i, same i)) in
-    record { inside = inside; probing = (may.ready.0, may.outer, with_there (j.hash row) _ r.0 r.2 (with_there (known_word v) _ r.1 r.3 (r.4, is))) }
+    record { inside = inside; probing = (may.hand, may.outer, with_there (j.hash row) _ r.0 r.2 (with_there (known_word v) _ r.1 r.3 (r.4, is))) }
 
 -- at the end of its walk the row's pairs may be counted
 pub may_add : (j : Join) (v w : WaitView HashView) (row count : ℕ) (passed : List ℕ) → MayProbe j (party_of v) row → w ≡ walking v row passed 0 → count ≡ length (partners j row passed) → May j (party_of w) (AddResults row count)
 may_add j v w row count passed may is many =
     let r = routed j (party_of v) row (λ z x. At (party_of v) (batch_bar (batch_of z x)) PROBE) may.probing in
-    let probing : Probing j (party_of (walking v row passed 0)) row (λ z x. Unit {0}) = (may.ready.0, may.outer, with_there (j.hash row) _ r.0 r.2 (with_there (known_word (party_of v)) _ r.1 r.3 (r.4, tt))) in
+    let probing : Probing j (party_of (walking v row passed 0)) row (λ z x. Unit {0}) = (may.hand, may.outer, with_there (j.hash row) _ r.0 r.2 (with_there (known_word (party_of v)) _ r.1 r.3 (r.4, tt))) in
     subst (λ (y : WaitView HashView). May j (party_of y) (AddResults row count)) (sym is) (omega arith, (probing, (refl, refl, many)))
 
 -- rows are probed one by one
@@ -91,12 +84,6 @@ how_many j row passed before after is = ap length is ∙ (length-append before (
 module _ (p : HashParty) (words : List ℕ) (views : List View) (phases : List ℕ) (h : Stands (join p) words views phases) (id : ℕ) (w : WaitView HashView) (s : IsStep views phases id (party_of w)) where
   abbrev j : Join
   j = join p
-
-  -- the row's hash word
-  pub row_hash : (row n : ℕ) → MayProbe j (party_of w) row → get_or words (op_at (step_op j (Load (Plain (Hash row))))) 0 ≡ n → IsKeyed j row n
-  row_hash row n may found =
-      let there = row_there p (party_of w) row may in
-      record { outer = may.outer; there = there; key = hash_found j words views phases h id (party_of w) s row n found there may.ready.1 }
 
   -- the looks of a walk
   pub looks_few : (v : WaitView HashView) (row hash stood : ℕ) (passed : List ℕ) → IsKeyed j row hash → w ≡ walking v row passed stood → agreeing_among p.inner.now p.buckets hash (passed ++ named_row stood) ≤ walk_of p.outer.now p.inner.now p.buckets row

@@ -7,4 +7,5 @@ pub mod Signals
 pub mod Marks
 pub mod Working
 pub mod Loads
+pub mod Holding
 pub mod Probes

@@ -10,14 +10,14 @@ use Rattle.join_law.specs.declared.view.Probed.{Probed}
 use Rattle.join_law.specs.Layout.{Join}
 use Rattle.join_law.specs.Routes.{batch_of}
 use Rattle.join_law.specs.Phases.{build, batch_bar, RUN, PROBE}
-use Rattle.join_law.specs.Machine.{At}
+use Rattle.join_law.specs.Machine.{At, InHand}
 use Rattle.join_law.specs.Stands.{meeting}
 use Rattle.join_law.specs.Views.{View, dropped, pairs_in}
-use Rattle.shared_tuples.specs.Tuples.{IsOf, IsReady, Routed}
+use Rattle.shared_tuples.specs.Tuples.{IsOf, Routed}
 
--- an outer row in hand, whose hash word is stored, at PROBE of the batch to which its hash leads by the sizes that the seat knows
+-- an outer row in hand, at PROBE of the batch to which its hash leads by the sizes that the seat knows
 pub record MayProbe (j : Join) (v : View) (row : ℕ) : Type 0 where
-  pub ready : IsReady v row
+  pub hand : InHand v row
   pub outer : IsOf j Outer row
   pub running : At v build RUN
   pub probing : Routed j v row (λ z x. At v (batch_bar (batch_of z x)) PROBE)

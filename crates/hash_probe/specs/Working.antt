@@ -59,12 +59,13 @@ pub record Worked (t : JoinTables) (v w : JoinSeats) (m n : Probed) (before afte
   pub numbers : SameWaitNumbers v.wait.view w.wait.view
   pub lock : w.lock ≡ v.lock
 
--- one row was probed or given up
+-- one row was probed or given up, and no store was looked at
 pub record HandlesRow (t : JoinTables) (v w : JoinSeats) (m n : Probed) (before after : List Pair) (looks_before looks_after : ℕ) : Type 0 where
   pub rows : List row.Probed
   pub given : List ℕ
   pub one : length rows ≤ 1
   pub does : DoesRows t.waits.party rows given v.wait.view.client w.wait.view.client before after looks_before looks_after
   pub says : Says t.waits.party t.signals.procs rows given m n v.signal.view w.signal.view
+  pub drained : w.wait.view.client.drained ≡ v.wait.view.client.drained
   pub stays : StaysAttached v.wait.view w.wait.view
   pub lock : w.lock ≡ v.lock

@@ -1,4 +1,6 @@
-use Rattle.std.proofs.Common.{refl, arith}
+use Rattle.std.proofs.Common.{refl, ap, ◌∙◌, arith}
+use Rattle.wait_core.specs.declared.view.WaitView.{WaitView}
+use Rattle.join_law.specs.declared.view.HashView.{HashView}
 use Rattle.hash_probe.proofs.Handling.{handles_given, row_worked}
 use Rattle.hash_probe.proofs.stores.handle_row.Goals as goal
 
@@ -17,3 +19,9 @@ returns-else-goes_on-clause-worked g c =
     let marks = c.heed.new.marks in
     let handled = handles_given c.args.tables.now u w marks marks c.args.row pairs pairs steps steps c.give_up.ensures.given refl refl refl refl (c.goes_on.ensures.no c.if-goes_on.false) (omega arith) c.give_up.ensures.others.0 c.give_up.ensures.others.1 in
     (row_worked c.args.tables.now c.args.seats.now u w c.args.marks.now marks marks pairs pairs steps steps h.client h.stays h.lock h.says h.looked handled).1
+
+pub returns-then-goes_on-clause-drained : goal.returns-then-goes_on-clause-drained
+returns-then-goes_on-clause-drained g c = c.probe_next.ensures.handles.drained ∙ ap (λ (y : HashView). y.drained) c.heed.ensures.client
+
+pub returns-else-goes_on-clause-drained : goal.returns-else-goes_on-clause-drained
+returns-else-goes_on-clause-drained g c = ap (λ (y : WaitView HashView). y.client.drained) c.give_up.ensures.given ∙ ap (λ (y : HashView). y.drained) c.heed.ensures.client
