@@ -1,4 +1,4 @@
--- The outer rows that a seat took in a row, before it handles them.
+-- The outer rows that a seat has taken and not yet handled.
 use Rattle.std.specs.Prelude.{◌≡◌, ℕ, ◌≤◌, List, [], ◌∷◌, All, Some, map}
 use Rattle.seat_roster.specs.Roster.{times}
 use Rattle.join_law.specs.Layout.{Join, sizes_of}

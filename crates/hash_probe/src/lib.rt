@@ -52,7 +52,7 @@ pub struct Probed {
 /// the slot of signals. The pairs go behind those that `pairs` has: for each row that it probed, that row
 /// with each inner row that it meets, once. Between two rows it absorbs signals. Where it carries the count of all
 /// pairs past 4,194,304 it emits STOP with the count. After that, after STOP, and after a row at which
-/// memory ran out, of which no pair is kept, it gives up all rows that it takes.
+/// memory ran out, of which no pair is kept, it gives up each row that it has in hand or takes.
 pub fn probe<'r, G: Gate, R: Wait, L: Ledger>(
     rt: &R,
     tables: &JoinTables<'r>,

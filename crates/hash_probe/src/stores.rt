@@ -1,4 +1,4 @@
-//! How the outer rows of a batch are probed: some are taken out of their store in a row, and then each is probed.
+//! How the outer rows of a batch are probed: some at a time are taken out of their store, and then each is probed.
 ghost use Rattle.std.specs.Prelude.{◌≡◌, ◌<◌, ◌≤◌, ℕ, [], ◌∷◌, Some, true};
 ghost use Rattle.seat_roster.specs.Roster.{times};
 ghost use Rattle.wait_core.specs.Seating.{client_moved, party_of};
@@ -183,8 +183,8 @@ fn handle_held<'r, R: Wait, L: Ledger>(
     }
 }
 
-// Probes the outer rows of a batch, until its outer store is at its end. While a worker takes some in a row, the line of
-// a cache with the store's head stays with it; otherwise it would go to another worker at nearly each row.
+// Probes the outer rows of a batch, until its outer store is at its end. While a worker takes some rows,
+// the line of a cache with the store's head stays with it; otherwise it would go to another worker at nearly each row.
 pub(crate) fn probe_store<'r, R: Wait, L: Ledger>(
     rt: &R,
     tables: &JoinTables<'r>,
