@@ -56,7 +56,7 @@ fn hash_chunk<'r, R: Wait, L: Ledger>(
 
 // Hashes a chunk of inner rows, which are in hand, by the sizes in force, and reports it. The growth that is
 // wanted then.
-fn hash_inner_chunk<'r, R: Wait, L: Ledger>(
+pub(crate) fn hash_inner_chunk<'r, R: Wait, L: Ledger>(
     rt: &R,
     tables: &JoinTables<'r>,
     seats: &mut JoinSeats<'r>,
@@ -87,7 +87,7 @@ fn hash_inner_chunk<'r, R: Wait, L: Ledger>(
 }
 
 // Hashes inner rows until none is left to claim, and takes part in each growth that is wanted.
-fn hash_inner_rows<'r, G: Gate, R: Wait, L: Ledger>(
+pub(crate) fn hash_inner_rows<'r, G: Gate, R: Wait, L: Ledger>(
     rt: &R,
     tables: &JoinTables<'r>,
     seats: &mut JoinSeats<'r>,

@@ -38,7 +38,7 @@ pub(crate) struct GrowthPhases {
 
 impl GrowthPhases {
     // The phase at a growth's barrier.
-    fn at(self, growth: Growth) -> u64
+    pub(crate) fn at(self, growth: Growth) -> u64
         ensures { result ≡ phase_at growth self }
     {
         match growth {
@@ -48,7 +48,7 @@ impl GrowthPhases {
     }
 
     // What that phase is called.
-    fn named(self, growth: Growth) -> u64
+    pub(crate) fn named(self, growth: Growth) -> u64
         ensures { result ≡ growth_phase (bar_of growth) (phase_at growth self) }
     {
         match growth {
@@ -76,7 +76,7 @@ impl GrowthPhases {
 }
 
 // The ELECT phase in which nobody takes part in a growth any more.
-fn last_of(growth: Growth) -> u64
+pub(crate) fn last_of(growth: Growth) -> u64
     ensures { result ≡ last_of growth }
 {
     match growth {
@@ -96,7 +96,7 @@ fn barrier_of(growth: Growth) -> BarNo
 }
 
 // Attaches to both barriers.
-fn attach_both<'r, R: Wait>(
+pub(crate) fn attach_both<'r, R: Wait>(
     rt: &R,
     tables: &JoinTables<'r>,
     seats: &mut JoinSeats<'r>,
@@ -161,7 +161,7 @@ fn move_if_due<'r, R: Wait>(
 
 // Goes from a phase after ELECT to the next one: rows are moved before REINSERT passes, and whoever is
 // elected for DECIDE decides.
-fn pass<'r, R: Wait>(
+pub(crate) fn pass<'r, R: Wait>(
     rt: &R,
     tables: &JoinTables<'r>,
     seats: &mut JoinSeats<'r>,
@@ -185,7 +185,7 @@ fn pass<'r, R: Wait>(
 }
 
 // Goes through a growth from the phase in which it stands, to the next ELECT.
-fn go_through<'r, R: Wait>(
+pub(crate) fn go_through<'r, R: Wait>(
     rt: &R,
     tables: &JoinTables<'r>,
     seats: &mut JoinSeats<'r>,
@@ -206,7 +206,7 @@ fn go_through<'r, R: Wait>(
 }
 
 // Goes on to where rows may move for a growth of batches, if the growth of buckets is in REALLOCATE.
-fn pass_reallocate<'r, R: Wait>(
+pub(crate) fn pass_reallocate<'r, R: Wait>(
     rt: &R,
     tables: &JoinTables<'r>,
     seats: &mut JoinSeats<'r>,
@@ -245,7 +245,7 @@ pub(crate) fn enter_growths<'r, R: Wait>(
 }
 
 // Arrives at ELECT, and does what is to do in REALLOCATE if it is elected for that.
-fn begin<'r, R: Wait>(
+pub(crate) fn begin<'r, R: Wait>(
     rt: &R,
     tables: &JoinTables<'r>,
     seats: &mut JoinSeats<'r>,

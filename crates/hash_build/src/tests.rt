@@ -206,6 +206,12 @@ fn one_worker_places_each_row_once(rt: HostRuntime) -> Result<(), Fail> {
             (1, 1, 65_536),
             (32_768, 1),
         ),
+        (
+            Keys::Different(131_072),
+            Keys::Different(10),
+            (1, 1, 262_144),
+            (262_144, 1),
+        ),
     ];
     for (inner, outer, (workers, buckets, mem), (buckets_then, batches)) in cases {
         let inner = rows_of(rt.alloc(), inner)?;

@@ -3,6 +3,8 @@ ghost use Rattle.std.specs.Prelude.{◌≡◌, []};
 ghost use Rattle.join_party.specs.Workers.{IsAt, IsNumbered};
 ghost use Rattle.hash_build.specs.Builds.{Begins};
 
+mod under_way;
+
 use super::*;
 use proc_table::Point;
 use std::sync::atomic::{AtomicU64, Ordering};
